@@ -1,0 +1,50 @@
+-- What a source gives.
+use Rattle.std.specs.Prelude.{◌≡◌, ℕ, ◌+◌, ◌≤◌, ◌<◌, List, [], length, take, drop, Option, Some, Result, Ok, Err, Vec}
+use Rattle.std.specs.declared.alloc.Global.{Global}
+use Rattle.desk_io.specs.Counts.{Rose}
+use Rattle.desk_io.specs.declared.source.ReadFault.{ReadFault}
+use Rattle.desk_io.specs.declared.reading.ReadRefusal.{ReadRefusal}
+use Rattle.desk_io.specs.declared.reading.ReadRefusal.TheVariants.{Fault, Size, NoMemory}
+
+-- so many of the bytes were given, and stand at the front of the buffer; none were given only at the end
+pub record Given (bytes : List ℕ) (left : Option (List ℕ)) (buf : List ℕ) (n : ℕ) : Type 0 where
+  pub there : n ≤ length bytes
+  pub given : take n buf ≡ take n bytes
+  pub after : left ≡ Some (drop n bytes)
+  pub ended : n ≡ 0 → bytes ≡ []
+
+-- a read of a source that has these bytes left
+abbrev pub TakesFrom : List ℕ → Option (List ℕ) → List ℕ → Result ℕ ReadFault → Type 0
+TakesFrom bytes left buf (Ok n) = Given bytes left buf n
+TakesFrom bytes left buf (Err e) = left ≡ Some bytes
+
+abbrev pub FitsIn : List ℕ → Result ℕ ReadFault → Type 0
+FitsIn buf (Ok n) = n ≤ length buf
+FitsIn buf (Err e) = Unit {0}
+
+abbrev pub ReadRose : ℕ → ℕ → Result ℕ ReadFault → Type 0
+ReadRose before after (Ok n) = Unit {0}
+ReadRose before after (Err e) = Rose before after
+
+-- A read into a buffer. It fails only where the count of faults rose, and then takes nothing.
+pub record Takes (old new : Option (List ℕ)) (before after : ℕ) (buf : List ℕ) (result : Result ℕ ReadFault) : Type 0 where
+  pub bytes : (b : List ℕ) → old ≡ Some b → TakesFrom b new buf result
+  pub fits : FitsIn buf result
+  pub cause : ReadRose before after result
+  pub later : before ≤ after
+
+abbrev pub most_bytes : ℕ
+most_bytes = 16777216
+
+-- a source that had these bytes left was read to its end, or until one byte more came than an input may have
+abbrev pub Comes : List ℕ → Option (List ℕ) → Result (Vec ℕ Global) ReadRefusal → Type 0
+Comes bytes left (Ok v) = (v.items ≡ bytes) × (length bytes ≤ most_bytes) × (left ≡ Some [])
+Comes bytes left (Err Size) = (most_bytes < length bytes) × (left ≡ Some (drop (most_bytes + 1) bytes))
+Comes bytes left (Err Fault) = Unit {0}
+Comes bytes left (Err NoMemory) = Unit {0}
+
+-- Reading to the end. A fault comes only where the count of faults rose.
+pub record ReadsAll (old new : Option (List ℕ)) (before after : ℕ) (result : Result (Vec ℕ Global) ReadRefusal) : Type 0 where
+  pub bytes : (b : List ℕ) → old ≡ Some b → Comes b new result
+  pub cause : result ≡ Err Fault → Rose before after
+  pub later : before ≤ after

@@ -1,0 +1,15 @@
+//! Bytes in and out: a source and a sink that count their faults, reading all and writing all.
+//!
+//! A trait's contract is one record over the state before and after a call. What a source has left and what a
+//! sink was given is told by those over memory and not by those over streams, so each is an `Option`.
+#![tactic(auto)]
+
+mod reading;
+mod sink;
+mod source;
+mod writing;
+
+pub use reading::{MOST_BYTES, ReadRefusal, read_all};
+pub use sink::{Sink, WriteFault};
+pub use source::{ReadFault, Source};
+pub use writing::write_all;
