@@ -28,7 +28,7 @@ pub fn read_input(_alloc: Global, _bytes: &[u8]) -> Result<Input, InputError>
     requires { length _bytes.now ≤ most_bytes }
     ensures checked { AnswersInput result (checked _bytes.now) }
     ensures size { IfOk result (λ i. IsScreenSize i.config.size) }
-    ensures known { IfOk result (λ i. All (λ c. IsKnown i.config c) i.commands.items) }
+    ensures known { IfOk result (λ i. All IsKnown i.commands.items) }
     ensures few { IfOk result (λ i. length i.commands.items ≤ 100000) }
 {
     Err(InputError::NoMemory)
