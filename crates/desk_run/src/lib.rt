@@ -4,4 +4,6 @@
 pub mod command;
 pub mod config;
 pub mod input;
+mod script;
 pub mod status;
+mod words;

@@ -1,0 +1,9 @@
+pub mod AskingLemmas
+pub mod ConfigLemmas
+pub mod DigitLemmas
+pub mod FindLemmas
+pub mod InputLaws
+pub mod LineLemmas
+pub mod NameLemmas
+pub mod ScriptLemmas
+pub mod VerbLemmas
