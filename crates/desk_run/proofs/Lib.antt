@@ -6,3 +6,12 @@ pub mod DumpLemmas
 pub mod CarryLemmas
 pub mod HistoryLemmas
 pub mod PaintLemmas
+pub mod AskingLemmas
+pub mod ConfigLemmas
+pub mod DigitLemmas
+pub mod FindLemmas
+pub mod InputLaws
+pub mod LineLemmas
+pub mod NameLemmas
+pub mod ScriptLemmas
+pub mod VerbLemmas

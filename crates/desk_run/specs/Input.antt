@@ -1,5 +1,7 @@
 -- The checked input: a configuration and commands, or the first refusal.
-use Rattle.std.specs.Prelude.{◌≡◌, ℕ, ◌*◌, ◌≤◌, ◌<◌, List, [], length, Result, Ok, Err, nat_lt, if◌then◌else◌}
+use Rattle.std.specs.Prelude.{◌≡◌, ℕ, ◌+◌, ◌*◌, ◌≤◌, ◌<◌, List, take, drop, length, codes, Option, Some, None, Result, Ok, Err, Vec, nat_lt, if◌then◌else◌}
+use Rattle.std.specs.declared.alloc.Global.{Global}
+use Rattle.desk_io.specs.Sources.{most_bytes}
 use Rattle.geom_base.specs.declared.Size.{Size}
 use Rattle.desk_run.specs.declared.command.ScriptCommand.{ScriptCommand}
 use Rattle.desk_run.specs.declared.command.ScriptCommand.TheVariants.{Paint, Dump, Nothing}
@@ -9,12 +11,22 @@ use Rattle.desk_run.specs.declared.input.Input.{Input}
 use Rattle.desk_run.specs.declared.input.InputError.{InputError}
 use Rattle.desk_run.specs.declared.input.InputError.TheVariants.{Refused, NoMemory}
 use Rattle.desk_run.specs.declared.status.InputRefusal.{InputRefusal}
-use Rattle.desk_run.specs.declared.status.InputRefusal.TheVariants.{Size as TooLong}
+use Rattle.desk_run.specs.declared.status.InputRefusal.TheVariants.{Size as TooLong, Config, Script}
+use Rattle.desk_run.specs.Config.{config_of}
+use Rattle.desk_run.specs.Words.Asking.{◌>>=◌}
+use Rattle.desk_run.specs.Words.Lines.{lines_of, place_of}
+use Rattle.desk_run.specs.Script.State.{first_state}
+use Rattle.desk_run.specs.Script.Reading.{Refused as Refusal, read_lines, number_of_fault}
 
 -- what an accepted input asks for
 pub record Checked : Type 0 where
   pub config : DeskConfig
   pub commands : List ScriptCommand
+
+-- the widths and heights that a screen may have
+pub record IsSide (n : ℕ) : Type 0 where
+  pub least : 1 ≤ n
+  pub most : n ≤ 4096
 
 -- the sizes that a screen may have
 pub record IsScreenSize (size : Size) : Type 0 where
@@ -30,10 +42,30 @@ IsKnown (Dump (Screen n)) = n < 1
 IsKnown (Paint o) = Unit {0}
 IsKnown Nothing = Unit {0}
 
--- what an input asks for, or its first refusal (a stand-in: no grammar yet)
-abbrev pub checked : List ℕ → Result Checked InputRefusal
-checked bytes = Err TooLong
+-- the first refusal of a script, with its line and its number
+abbrev pub refused_script : Result (List ScriptCommand) Refusal → Result (List ScriptCommand) InputRefusal
+refused_script (Ok commands) = Ok commands
+refused_script (Err r) = Err (Script r.0 (number_of_fault r.1))
 
+-- what the lines of a script ask for, the first of them being line n of the input
+abbrev pub script_of : ℕ → List (List ℕ) → Result (List ScriptCommand) InputRefusal
+script_of n lines = refused_script (read_lines n 0 first_state lines)
+
+-- so many lines are the configuration, then comes `%%`, and then the script; without that line it is no input
+abbrev pub checked_parts : Option ℕ → List (List ℕ) → Result Checked InputRefusal
+checked_parts None lines = Err (Config 10)
+checked_parts (Some n) lines = do
+  config ← config_of (take n lines)
+  commands ← script_of (n + 2) (drop (n + 1) lines)
+  Ok (record { config = config; commands = commands })
+
+-- what an input asks for, or its first refusal: the first line that is exactly `%%` ends the configuration
+unfoldable pub checked : List ℕ → Result Checked InputRefusal
+checked bytes =
+    if nat_lt most_bytes (length bytes) then Err TooLong
+    else checked_parts (place_of (codes "%%") (lines_of bytes)) (lines_of bytes)
+
+-- what a value of the code says
 abbrev pub checked_of : Input → Checked
 checked_of i = record { config = i.config; commands = i.commands.items }
 
@@ -42,3 +74,9 @@ abbrev pub AnswersInput : Result Input InputError → Result Checked InputRefusa
 AnswersInput (Ok i) asked = asked ≡ Ok (checked_of i)
 AnswersInput (Err (Refused r)) asked = asked ≡ Err r
 AnswersInput (Err NoMemory) asked = Unit {0}
+
+-- the same for the commands alone
+abbrev pub AnswersScript : Result (Vec ScriptCommand Global) InputError → Result (List ScriptCommand) InputRefusal → Type 0
+AnswersScript (Ok commands) asked = asked ≡ Ok commands.items
+AnswersScript (Err (Refused r)) asked = asked ≡ Err r
+AnswersScript (Err NoMemory) asked = Unit {0}

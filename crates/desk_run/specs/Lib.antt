@@ -5,3 +5,6 @@ pub mod Desk
 pub mod Texts
 pub mod Run
 pub mod Answers
+pub mod Config
+pub mod Words
+pub mod Script

@@ -1,13 +1,19 @@
 //! A whole input: a configuration and a script.
 
-ghost use Rattle.std.specs.Prelude.{◌≤◌, length, IfOk, All};
-ghost use Rattle.desk_run.specs.Input.{checked, AnswersInput, IsScreenSize, IsKnown};
+ghost use Rattle.std.specs.Prelude.{◌≡◌, ◌≤◌, ◌<◌, ◌+◌, ◌^◌, length, IfOk, All};
+ghost use Rattle.std.specs.Option.{option_copied};
+ghost use Rattle.desk_run.specs.Input.{checked, AnswersInput, AnswersScript, script_of, IsScreenSize, IsKnown};
+ghost use Rattle.desk_run.specs.Words.Lines.{lines_after};
+ghost use Rattle.desk_run.specs.declared.config.DeskConfig.{DeskConfig};
+ghost use Rattle.desk_run.specs.declared.input.InputError.TheVariants.{Refused, NoMemory};
 ghost use Rattle.desk_io.specs.Sources.{most_bytes};
 
 use crate::command::ScriptCommand;
-use crate::config::DeskConfig;
+use crate::config::{DeskConfig, read_config};
+use crate::script::{ScriptRefusal, read_script};
 use crate::status::InputRefusal;
-use std::alloc::Global;
+use crate::words::{FoundLine, find_line};
+use std::alloc::{AllocError, Global};
 
 /// What an input asks for.
 #[derive(Drop)]
@@ -23,13 +29,150 @@ pub enum InputError {
     NoMemory,
 }
 
+impl From<InputRefusal> for InputError {
+    ghost from_gives = { λ r e. e ≡ Refused r };
+
+    fn from(refusal: InputRefusal) -> InputError {
+        InputError::Refused(refusal)
+    }
+}
+
+impl From<AllocError> for InputError {
+    ghost from_gives = { λ _ e. e ≡ NoMemory };
+
+    fn from(_e: AllocError) -> InputError {
+        InputError::NoMemory
+    }
+}
+
+/// What the lines behind a found line ask for.
+#[tactic(auto, unfolding(crate::specs::Script::Reading::read_lines))]
+fn read_commands(alloc: Global, found: FoundLine<'_>) -> Result<Vec<ScriptCommand>, InputError>
+    requires { found.before + 2 + length (lines_after (option_copied found.after)) < 2 ^ 64 }
+    ensures value { AnswersScript result (script_of (found.entry.before + 2) (lines_after (option_copied found.entry.after))) }
+    ensures known { IfOk result (λ v. All IsKnown v.items) }
+    ensures few { IfOk result (λ v. length v.items ≤ 100000) }
+{
+    let text = match found.after {
+        Some(text) => text,
+        None => return Ok(Vec::new(alloc)),
+    };
+    match read_script(alloc, text, found.before as u64 + 2) {
+        Ok(commands) => Ok(commands),
+        Err(ScriptRefusal::Refused { line, number }) => {
+            Err(InputError::Refused(InputRefusal::Script { line, number }))
+        }
+        Err(ScriptRefusal::NoMemory) => Err(InputError::NoMemory),
+    }
+}
+
 /// Reads an input, or says what is wrong with it.
-pub fn read_input(_alloc: Global, _bytes: &[u8]) -> Result<Input, InputError>
-    requires { length _bytes.now ≤ most_bytes }
-    ensures checked { AnswersInput result (checked _bytes.now) }
+#[tactic(auto, unfolding(crate::specs::Input::checked))]
+pub fn read_input(alloc: Global, bytes: &[u8]) -> Result<Input, InputError>
+    requires { length bytes.now ≤ most_bytes }
+    ensures checked { AnswersInput result (checked bytes.now) }
     ensures size { IfOk result (λ i. IsScreenSize i.config.size) }
     ensures known { IfOk result (λ i. All IsKnown i.commands.items) }
     ensures few { IfOk result (λ i. length i.commands.items ≤ 100000) }
 {
-    Err(InputError::NoMemory)
+    let found = match find_line(bytes, b"%%") {
+        Some(found) => found,
+        None => return Err(InputError::Refused(InputRefusal::Config { number: 10 })),
+    };
+    let config = read_config(alloc, bytes, found.before)?;
+    let commands = read_commands(alloc, found)?;
+    Ok(Input { config, commands })
+}
+
+#[cfg(test)]
+mod tests {
+    use super::*;
+    use crate::command::{Named, PaintOrder};
+    use geom_base::{Rect, Size};
+    use pix_format::Rgb;
+    use std::test::Fail;
+
+    const SCREEN: &str =
+        "[[screen]]\nkind = \"linear\"\nx = 0\ny = 0\nwidth = 4\nheight = 2\nformat = \"8\"\n";
+
+    #[test]
+    fn commands_are_read_in_order(rt: HostRuntime) -> Result<(), Fail> {
+        let alloc = rt.alloc();
+        let text = format!(in alloc;
+            "{SCREEN}%%\n# a comment\n  \npaint  screen 1 0 3 2 #FF8000 13 \r\ndump -0"
+        )?;
+        let input = read_input(alloc, text.as_bytes())?;
+        assert_eq!(rt; input.config.size, Size { w: 4, h: 2 });
+        let rect = Rect {
+            left: 1,
+            top: 0,
+            right: 3,
+            bottom: 2,
+        };
+        let colour = Rgb {
+            r: 255,
+            g: 128,
+            b: 0,
+        };
+        let paint = ScriptCommand::Paint(PaintOrder { rect, colour });
+        let dump = ScriptCommand::Dump(Named::Screen(0));
+        assert_eq!(rt; input.commands.as_slice(), [paint, dump].as_slice());
+        Ok(())
+    }
+
+    #[test]
+    fn the_first_refusal_is_named(rt: HostRuntime) -> Result<(), Fail> {
+        let alloc = rt.alloc();
+        let other = InputRefusal::Config { number: 0 };
+        let none = InputRefusal::Config { number: 10 };
+        let cases = [
+            ("", "x%%\n", none),
+            ("", "%%\r", none),
+            ("", "\n%%\n", other),
+            ("# a comment\n", "%%\n", other),
+            (
+                "",
+                "%%\r\n#\ndump 1\ndump x",
+                InputRefusal::Script {
+                    line: 10,
+                    number: 4,
+                },
+            ),
+            (
+                "",
+                "%%\npaint screen 1 0",
+                InputRefusal::Script { line: 9, number: 2 },
+            ),
+            (
+                "",
+                "%%\n\npaint screen 3 0 1 2 #FF0000 13",
+                InputRefusal::Script {
+                    line: 10,
+                    number: 8,
+                },
+            ),
+            ("", "%%\nframe", InputRefusal::Script { line: 9, number: 1 }),
+            (
+                "",
+                "%%\npaint none 0 0 1 1 #FF0000 13",
+                InputRefusal::Script { line: 9, number: 5 },
+            ),
+            (
+                "",
+                "%%\npaint screen 0 0 1 1 #FF000 17",
+                InputRefusal::Script { line: 9, number: 3 },
+            ),
+        ];
+        for (front, rest, wanted) in cases {
+            let text = format!(in alloc; "{front}{SCREEN}{rest}")?;
+            let bytes = text.as_bytes();
+            assert!(rt; bytes.len() < 1000);
+            let refusal = match read_input(alloc, bytes) {
+                Err(InputError::Refused(refusal)) => Some(refusal),
+                _ => None,
+            };
+            assert_eq!(rt; refusal, Some(wanted), "at {rest}");
+        }
+        Ok(())
+    }
 }

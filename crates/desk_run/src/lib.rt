@@ -8,5 +8,7 @@ mod dump;
 pub mod input;
 pub mod run;
 pub mod screen;
+mod script;
 pub mod status;
 mod text;
+mod words;

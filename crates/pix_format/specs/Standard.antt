@@ -1,25 +1,27 @@
--- The tables that a format has where none is given.
-use Rattle.std.specs.Prelude.{ℕ, ◌+◌, ◌*◌, ◌/◌, ◌%◌, List, [], ◌∷◌, map}
+-- The table that a format has where none is given.
+use Rattle.std.specs.Prelude.{ℕ, ◌+◌, ◌*◌, ◌/◌, ◌%◌, List, map}
 use Rattle.std.specs.List.{range_with_len}
-use Rattle.pix_format.specs.declared.Rgb.{Rgb}
-use Rattle.pix_format.specs.declared.Format.{Format}
-use Rattle.pix_format.specs.declared.Format.TheVariants.{B1, B4, B8, B555, B565, B24, B32}
+use Rattle.pix_format.specs.declared.rgb.Rgb.{Rgb}
+use Rattle.pix_format.specs.declared.format.Format.{Format}
+use Rattle.pix_format.specs.declared.format.Format.TheVariants.{B1, B4}
+use Rattle.pix_format.specs.Value.{colours_of}
 
--- three bits of a channel as eight
+abbrev pub grey : ℕ → Rgb
+grey level = record { r = level; g = level; b = level }
+
+-- a channel of three or of two bits as one of eight
 abbrev pub widened3 : ℕ → ℕ
 widened3 c = c * 32 + c * 4 + c / 2
 
-abbrev pub standard8 : ℕ → Rgb
-standard8 i = record { r = widened3 (i / 32); g = widened3 (i / 4 % 8); b = 85 * (i % 4) }
+abbrev pub widened2 : ℕ → ℕ
+widened2 c = 85 * c
 
-abbrev pub grey4 : ℕ → Rgb
-grey4 i = record { r = 17 * i; g = 17 * i; b = 17 * i }
+-- the colour of an index: black and white; sixteen greys; red in bits 7 to 5, green in 4 to 2 and blue in 1 to 0
+abbrev pub standard_colour : Format → ℕ → Rgb
+standard_colour B1 i = grey (255 * i)
+standard_colour B4 i = grey (17 * i)
+standard_colour _ i = record { r = widened3 (i / 32); g = widened3 (i / 4 % 8); b = widened2 (i % 4) }
 
-abbrev pub standard_colours : Format → List Rgb
-standard_colours B1 = record { r = 0; g = 0; b = 0 } ∷ record { r = 255; g = 255; b = 255 } ∷ []
-standard_colours B4 = map grey4 (range_with_len 0 16)
-standard_colours B8 = map standard8 (range_with_len 0 256)
-standard_colours B555 = []
-standard_colours B565 = []
-standard_colours B24 = []
-standard_colours B32 = []
+-- the colours of all indices
+unfoldable pub standard_colours : Format → List Rgb
+standard_colours format = map (standard_colour format) (range_with_len 0 (colours_of format))

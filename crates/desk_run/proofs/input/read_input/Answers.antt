@@ -1,0 +1,9 @@
+use Rattle.std.proofs.Common.{arith}
+use Rattle.desk_run.proofs.FindLemmas.{room_behind}
+use Rattle.desk_run.proofs.input.read_input.Goals as goal
+
+pub read_commands-requires : goal.read_commands-requires
+read_commands-requires c =
+    let found = c.in-Some.ensures in
+    let room = room_behind _ _ c.args.bytes.now _ found.0 found.1 in
+    omega (arith, room)

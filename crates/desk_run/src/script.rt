@@ -1,0 +1,11 @@
+//! A script read into commands, or its first refusal.
+
+mod commands;
+mod fields;
+mod kinds;
+mod names;
+mod reader;
+mod reading;
+mod verb;
+
+pub use reading::{ScriptRefusal, read_script};
