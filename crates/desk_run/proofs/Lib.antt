@@ -5,6 +5,7 @@ pub mod RowLemmas
 pub mod DumpLemmas
 pub mod CarryLemmas
 pub mod HistoryLemmas
+pub mod CallLemmas
 pub mod PaintLemmas
 pub mod AskingLemmas
 pub mod ConfigLemmas

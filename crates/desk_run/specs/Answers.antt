@@ -93,8 +93,8 @@ Reads c _ = c.left_after ≡ Some []
 
 -- no count of faults rose
 pub record NoRise (c : Call) : Type 0 where
-  pub reading : c.read_faults_after ≡ c.read_faults
-  pub writing : c.write_faults_after ≡ c.write_faults
+  pub reading : Rose c.read_faults c.read_faults_after → ⊥
+  pub writing : Rose c.write_faults c.write_faults_after → ⊥
 
 -- then the answer is what is due, or want of memory
 abbrev pub IsWhole : Option Status → Status → Type 0
@@ -117,7 +117,7 @@ pub record Ends (input : Option (Result Checked InputRefusal)) (old new : Option
   pub comes : ComesBy s (due_by input)
   pub read : s ≡ ReadFault → ⊥
   pub cause : s ≡ WriteFault → Rose before after
-  pub complete : after ≡ before → IsWhole (due_by input) s
+  pub complete : (Rose before after → ⊥) → IsWhole (due_by input) s
   pub leaves : Leaves input old new before after s
 
 -- the text of a status was written, and the status is answered; or the sink failed in it
