@@ -1,5 +1,5 @@
 use Rattle.std.proofs.Common.{◌≡◌, ℕ, ◌*◌, ◌<◌, List, length, Some, refl, sym, ap, ◌∙◌}
-use Rattle.geom_base.specs.declared.Rect.{Rect}
+use Rattle.geom_base.specs.declared.rect.Rect.{Rect}
 use Rattle.geom_base.specs.Points.{is_in, box_of}
 use Rattle.pix_format.specs.declared.Rgb.{Rgb}
 use Rattle.pix_format.specs.Value.{value_of}

@@ -10,5 +10,7 @@ pub mod run;
 pub mod screen;
 mod script;
 pub mod status;
+#[cfg(test)]
+mod tests;
 mod text;
 mod words;

@@ -1,7 +1,7 @@
 -- One word of a line, where names count: its value, or its first fault.
 use Rattle.std.specs.Prelude.{ℕ, ◌+◌, ◌/◌, ◌%◌, ℤ, pos, negsuc, int_le, List, drop, slice_index, Option, Some, Result, Ok, Err, Bool, ◌==◌, ◌&&◌, if◌then◌else◌}
 use Rattle.std.specs.Char.{is_ascii_alphabetic}
-use Rattle.geom_base.specs.declared.Rect.{Rect}
+use Rattle.geom_base.specs.declared.rect.Rect.{Rect}
 use Rattle.pix_format.specs.declared.Rgb.{Rgb}
 use Rattle.desk_run.specs.declared.command.Named.{Named}
 use Rattle.desk_run.specs.declared.command.Named.TheVariants.{Screen}
