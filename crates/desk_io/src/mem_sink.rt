@@ -37,7 +37,12 @@ impl Model for MemSink {
 impl MemSink {
     /// A sink with room for so many bytes, of which a write takes at most `step`. The writes whose
     /// numbers stand in `fails` fail. It takes all its memory here, and none later.
-    pub fn new(alloc: Global, room: usize, step: usize, fails: Vec<u64>) -> Result<MemSink, AllocError>
+    pub fn new(
+        alloc: Global,
+        room: usize,
+        step: usize,
+        fails: Vec<u64>,
+    ) -> Result<MemSink, AllocError>
         requires { 1 ≤ step }
         ensures { IfOk result (λ sink. sink ≡ empty_sink room step fails.items) }
     {
@@ -77,7 +82,10 @@ impl Sink for MemSink {
         ensures count { IfOk result (λ n. n ≡ taken_count self.old piece.now) }
         ensures state { self.new ≡ after_write self.old piece.now result }
     {
-        let count = self.step.min(piece.len()).min(self.bytes.len() - self.filled);
+        let count = self
+            .step
+            .min(piece.len())
+            .min(self.bytes.len() - self.filled);
         let is_full = count == 0 && !piece.is_empty();
         self.calls = self.calls.saturating_add(1);
         if is_full || self.fails.contains(&self.calls) {
@@ -88,5 +96,31 @@ impl Sink for MemSink {
         self.bytes[self.filled..end].copy_from_slice(&piece[..count]);
         self.filled = end;
         Ok(count)
+    }
+}
+
+#[cfg(test)]
+mod tests {
+    use super::*;
+    use std::test::Fail;
+
+    #[test]
+    fn takes_and_fails_by_its_list_and_room(rt: HostRuntime) -> Result<(), Fail> {
+        let mut sink = MemSink::new(rt.alloc(), 6, 4, vec![in rt.alloc(); 2]?)?;
+        // The piece, how many bytes are taken, and the faults so far.
+        let writes = [
+            ("abcde", Ok(4), 0),
+            ("f", Err(WriteFault), 1),
+            ("", Ok(0), 1),
+            ("efg", Ok(2), 1),
+            ("g", Err(WriteFault), 2),
+            ("", Ok(0), 2),
+        ];
+        for (piece, want, faults) in writes {
+            assert_eq!(rt; sink.write(piece.as_bytes()), want, "{piece:?}");
+            assert_eq!(rt; sink.faults(), faults, "{piece:?}");
+        }
+        assert_eq!(rt; sink.written(), b"abcdef".as_slice());
+        Ok(())
     }
 }

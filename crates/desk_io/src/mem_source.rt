@@ -84,3 +84,34 @@ impl Source for MemSource {
         Ok(count)
     }
 }
+
+#[cfg(test)]
+mod tests {
+    use super::*;
+    use std::test::Fail;
+
+    #[test]
+    fn gives_and_fails_by_its_list(rt: HostRuntime) -> Result<(), Fail> {
+        let bytes = Vec::from_slice(rt.alloc(), b"abcdefg")?;
+        let mut source = MemSource::new(rt.alloc(), bytes, 3, vec![in rt.alloc(); 2, 6]?);
+        // The room in the buffer, what is given, and the faults so far.
+        let reads = [
+            (8, Some("abc"), 0),
+            (8, None, 1),
+            (2, Some("de"), 1),
+            (3, Some("fg"), 1),
+            (1, Some(""), 1),
+            (1, None, 2),
+            (1, Some(""), 2),
+        ];
+        for (room, want, faults) in reads {
+            let mut buf = vec![in rt.alloc(); 0; room]?;
+            match source.read(&mut buf) {
+                Ok(count) => assert_eq!(rt; Some(&buf[..count]), want.map(|text| text.as_bytes())),
+                Err(ReadFault) => assert!(rt; want.is_none()),
+            }
+            assert_eq!(rt; source.faults(), faults);
+        }
+        Ok(())
+    }
+}

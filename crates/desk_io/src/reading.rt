@@ -83,3 +83,48 @@ fn read_by_pieces<S: Source>(
         bytes.extend_from_slice(&piece[..count])?;
     }
 }
+
+#[cfg(test)]
+mod tests {
+    use super::*;
+    use crate::mem_source::MemSource;
+    use std::test::Fail;
+
+    #[test]
+    fn reads_what_comes_by_any_step(rt: HostRuntime) -> Result<(), Fail> {
+        let text = b"%%\npaint screen 0 0 4 2 #FF0000 13\ndump 0\n";
+        for step in [1, 2, 5, 42, 1_000] {
+            let bytes = Vec::from_slice(rt.alloc(), text)?;
+            let mut source = MemSource::new(rt.alloc(), bytes, step, Vec::new(rt.alloc()));
+            let read = read_all(rt.alloc(), &mut source)?;
+            assert_eq!(rt; read.as_slice(), text.as_slice(), "by {step}");
+        }
+        Ok(())
+    }
+
+    #[test]
+    fn stops_at_a_fault(rt: HostRuntime) -> Result<(), Fail> {
+        // Two bytes a read: the third read gives the last byte, and the fourth comes to the end.
+        for fails in 1..5 {
+            let bytes = Vec::from_slice(rt.alloc(), b"abcde")?;
+            let mut source = MemSource::new(rt.alloc(), bytes, 2, vec![in rt.alloc(); fails]?);
+            let read = read_all(rt.alloc(), &mut source);
+            assert_eq!(rt; read, Err(ReadRefusal::Fault), "at {fails}");
+            assert_eq!(rt; source.faults(), 1, "at {fails}");
+        }
+        Ok(())
+    }
+
+    #[test]
+    fn refuses_one_byte_too_many(rt: HostRuntime) -> Result<(), Fail> {
+        for (count, fits) in [(16_777_216, true), (16_777_217, false), (16_800_000, false)] {
+            let bytes = zeros(rt.alloc(), count)?;
+            let mut source = MemSource::new(rt.alloc(), bytes, count, Vec::new(rt.alloc()));
+            match read_all(rt.alloc(), &mut source) {
+                Ok(read) => assert!(rt; fits && read.len() == count, "at {count}"),
+                Err(refusal) => assert!(rt; !fits && refusal == ReadRefusal::Size, "at {count}"),
+            }
+        }
+        Ok(())
+    }
+}

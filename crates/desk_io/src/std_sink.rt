@@ -54,3 +54,48 @@ impl<W: Write> Sink for StdSink<W> {
         Err(WriteFault)
     }
 }
+
+#[cfg(test)]
+mod tests {
+    use super::*;
+    use crate::writing::write_all;
+    use std::io;
+    use std::test::Fail;
+
+    /// Takes all, after an interruption.
+    #[derive(Drop)]
+    struct Interrupted {
+        is_over: bool,
+    }
+
+    impl Write for Interrupted {
+        fn write(&mut self, buf: &[u8]) -> io::Result<usize> {
+            if self.is_over {
+                return Ok(buf.len());
+            }
+            self.is_over = true;
+            Err(io::Error::from(ErrorKind::Interrupted))
+        }
+
+        fn flush(&mut self) -> io::Result<()> {
+            Ok(())
+        }
+    }
+
+    #[test]
+    fn puts_into_the_writer(rt: HostRuntime) -> Result<(), Fail> {
+        let mut bytes = Vec::new(rt.alloc());
+        write_all(&mut StdSink::new(&mut bytes), b"end 0\n")?;
+        assert_eq!(rt; bytes.as_slice(), b"end 0\n".as_slice());
+
+        let mut sink = StdSink::new(Interrupted { is_over: false });
+        assert_eq!(rt; write_all(&mut sink, b"end 0\n"), Ok(()));
+
+        // A writer that is full takes nothing of a piece.
+        let mut room = [0; 4];
+        let mut sink = StdSink::new(room.as_mut_slice());
+        assert_eq!(rt; write_all(&mut sink, b"end 0\n"), Err(WriteFault));
+        assert_eq!(rt; room.as_slice(), b"end ".as_slice());
+        Ok(())
+    }
+}

@@ -54,3 +54,38 @@ impl<R: Read> Source for StdSource<R> {
         Err(ReadFault)
     }
 }
+
+#[cfg(test)]
+mod tests {
+    use super::*;
+    use crate::reading::read_all;
+    use std::io;
+    use std::test::Fail;
+
+    /// At its end, after an interruption.
+    #[derive(Drop)]
+    struct Interrupted {
+        is_over: bool,
+    }
+
+    impl Read for Interrupted {
+        fn read(&mut self, _buf: &mut [u8]) -> io::Result<usize> {
+            if self.is_over {
+                return Ok(0);
+            }
+            self.is_over = true;
+            Err(io::Error::from(ErrorKind::Interrupted))
+        }
+    }
+
+    #[test]
+    fn gives_what_the_reader_gives(rt: HostRuntime) -> Result<(), Fail> {
+        let mut source = StdSource::new(b"version 1\n".as_slice());
+        let read = read_all(rt.alloc(), &mut source)?;
+        assert_eq!(rt; read.as_slice(), b"version 1\n".as_slice());
+
+        let mut source = StdSource::new(Interrupted { is_over: false });
+        assert!(rt; read_all(rt.alloc(), &mut source)?.is_empty());
+        Ok(())
+    }
+}
