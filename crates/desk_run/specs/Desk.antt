@@ -3,9 +3,9 @@ use Rattle.std.specs.Prelude.{◌≡◌, ℕ, ◌*◌, Bool, true, false, List, 
 use Rattle.geom_base.specs.declared.point.Point.{Point}
 use Rattle.geom_base.specs.declared.size.Size.{Size}
 use Rattle.geom_base.specs.Points.{is_in}
-use Rattle.pix_format.specs.declared.Format.{Format}
-use Rattle.pix_format.specs.declared.Format.TheVariants.{B8}
-use Rattle.pix_format.specs.declared.Rgb.{Rgb}
+use Rattle.pix_format.specs.declared.format.Format.{Format}
+use Rattle.pix_format.specs.declared.format.Format.TheVariants.{B8}
+use Rattle.pix_format.specs.declared.rgb.Rgb.{Rgb}
 use Rattle.pix_format.specs.Standard.{standard_colours}
 use Rattle.pix_format.specs.Value.{value_of}
 use Rattle.surf_obj.specs.Surface.{Surface, redrawn}

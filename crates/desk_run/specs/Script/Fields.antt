@@ -2,7 +2,7 @@
 use Rattle.std.specs.Prelude.{ℕ, ◌+◌, ◌/◌, ◌%◌, ℤ, pos, negsuc, int_le, List, drop, slice_index, Option, Some, Result, Ok, Err, Bool, ◌==◌, ◌&&◌, if◌then◌else◌}
 use Rattle.std.specs.Char.{is_ascii_alphabetic}
 use Rattle.geom_base.specs.declared.rect.Rect.{Rect}
-use Rattle.pix_format.specs.declared.Rgb.{Rgb}
+use Rattle.pix_format.specs.declared.rgb.Rgb.{Rgb}
 use Rattle.desk_run.specs.declared.command.Named.{Named}
 use Rattle.desk_run.specs.declared.command.Named.TheVariants.{Screen}
 use Rattle.desk_run.specs.declared.words.fault.Fault.{Fault}
