@@ -1,6 +1,10 @@
--- Counts of faults.
+-- Counts of calls and of faults.
 use Rattle.std.specs.Prelude.{ℕ, ◌+◌, ◌-◌, ◌^◌, ◌≤◌, min}
+
+-- the next number of a count of 64 bits, which stays at its last value
+abbrev pub one_more : ℕ → ℕ
+one_more count = min (count + 1) (2 ^ 64 - 1)
 
 -- a count of 64 bits rose; one that stands at its last value is read as having risen
 abbrev pub Rose : ℕ → ℕ → Type 0
-Rose before after = min (before + 1) (2 ^ 64 - 1) ≤ after
+Rose before after = one_more before ≤ after

@@ -1,3 +1,7 @@
 pub mod Counts
 pub mod Sources
 pub mod Sinks
+pub mod MemSources
+pub mod MemSinks
+pub mod StdSources
+pub mod StdSinks

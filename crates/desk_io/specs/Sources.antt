@@ -36,15 +36,25 @@ pub record Takes (old new : Option (List ℕ)) (before after : ℕ) (buf : List 
 abbrev pub most_bytes : ℕ
 most_bytes = 16777216
 
--- a source that had these bytes left was read to its end, or until one byte more came than an input may have
+-- the reading broke off: so many of the bytes were taken, at most as many as an input may have
+abbrev pub BrokeOff : List ℕ → Option (List ℕ) → Type 0
+BrokeOff bytes left = (taken : ℕ) × (taken ≤ most_bytes) × (taken ≤ length bytes) × (left ≡ Some (drop taken bytes))
+
+-- a source that had these bytes left was read to its end, or until one byte more came than an input may have, or the reading broke off
 abbrev pub Comes : List ℕ → Option (List ℕ) → Result (Vec ℕ Global) ReadRefusal → Type 0
 Comes bytes left (Ok v) = (v.items ≡ bytes) × (length bytes ≤ most_bytes) × (left ≡ Some [])
 Comes bytes left (Err Size) = (most_bytes < length bytes) × (left ≡ Some (drop (most_bytes + 1) bytes))
-Comes bytes left (Err Fault) = Unit {0}
-Comes bytes left (Err NoMemory) = Unit {0}
+Comes bytes left (Err Fault) = BrokeOff bytes left
+Comes bytes left (Err NoMemory) = BrokeOff bytes left
+
+-- what was read is at most as long as an input may be, also where the source tells nothing
+abbrev pub IsWithinMost : Result (Vec ℕ Global) ReadRefusal → Type 0
+IsWithinMost (Ok v) = length v.items ≤ most_bytes
+IsWithinMost (Err e) = Unit {0}
 
 -- Reading to the end. A fault comes only where the count of faults rose.
 pub record ReadsAll (old new : Option (List ℕ)) (before after : ℕ) (result : Result (Vec ℕ Global) ReadRefusal) : Type 0 where
   pub bytes : (b : List ℕ) → old ≡ Some b → Comes b new result
+  pub within : IsWithinMost result
   pub cause : result ≡ Err Fault → Rose before after
   pub later : before ≤ after

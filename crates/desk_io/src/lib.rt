@@ -4,12 +4,20 @@
 //! sink was given is told by those over memory and not by those over streams, so each is an `Option`.
 #![tactic(auto)]
 
+mod mem_sink;
+mod mem_source;
 mod reading;
 mod sink;
 mod source;
+mod std_sink;
+mod std_source;
 mod writing;
 
+pub use mem_sink::MemSink;
+pub use mem_source::MemSource;
 pub use reading::{MOST_BYTES, ReadRefusal, read_all};
 pub use sink::{Sink, WriteFault};
 pub use source::{ReadFault, Source};
+pub use std_sink::StdSink;
+pub use std_source::StdSource;
 pub use writing::write_all;

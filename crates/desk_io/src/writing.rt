@@ -15,3 +15,30 @@ pub fn write_all<K: Sink>(sink: &mut K, bytes: &[u8]) -> Result<(), WriteFault>
     }
     Ok(())
 }
+
+#[cfg(test)]
+mod tests {
+    use super::*;
+    use crate::mem_sink::MemSink;
+    use std::test::Fail;
+
+    #[test]
+    fn writes_all_or_a_prefix(rt: HostRuntime) -> Result<(), Fail> {
+        // Room, step, the write that fails, and what is written of the line.
+        let cases = [
+            (64, 1, 0, "dump 0 4 2 8\n"),
+            (13, 13, 0, "dump 0 4 2 8\n"),
+            (64, 5, 2, "dump "),
+            (64, 5, 3, "dump 0 4 2"),
+            (12, 7, 0, "dump 0 4 2 8"),
+            (0, 7, 0, ""),
+        ];
+        for (room, step, fails, want) in cases {
+            let mut sink = MemSink::new(rt.alloc(), room, step, vec![in rt.alloc(); fails]?)?;
+            let is_whole = write_all(&mut sink, b"dump 0 4 2 8\n").is_ok();
+            assert_eq!(rt; is_whole, want.len() == 13, "{want:?}");
+            assert_eq!(rt; sink.written(), want.as_bytes());
+        }
+        Ok(())
+    }
+}

@@ -1,3 +1,12 @@
+pub mod HexLemmas
+pub mod FillLemmas
+pub mod PutLemmas
+pub mod RowLemmas
+pub mod DumpLemmas
+pub mod CarryLemmas
+pub mod HistoryLemmas
+pub mod CallLemmas
+pub mod PaintLemmas
 pub mod AskingLemmas
 pub mod ConfigLemmas
 pub mod DigitLemmas

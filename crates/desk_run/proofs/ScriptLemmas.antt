@@ -59,6 +59,6 @@ few_more commands None h few = rw append-nil h
 few_more commands (Some c) h few = omega (arith, length-append commands (c ∷ []))
 
 -- one more command, if any, reads a surface that is there
-pub known_more : (commands : List ScriptCommand) (asked : Option ScriptCommand) → ((config : DeskConfig) → All (λ c. IsKnown config c) commands) → IfSome asked (λ c. (config : DeskConfig) → IsKnown config c) → (config : DeskConfig) → All (λ c. IsKnown config c) (commands ++ option_to_list asked)
-known_more commands None h known config = rw append-nil (h config)
-known_more commands (Some c) h known config = All-push (λ c. IsKnown config c) commands c (h config) (known config)
+pub known_more : (commands : List ScriptCommand) (asked : Option ScriptCommand) → All IsKnown commands → IfSome asked IsKnown → All IsKnown (commands ++ option_to_list asked)
+known_more commands None h known = rw append-nil h
+known_more commands (Some c) h known = All-push IsKnown commands c h known

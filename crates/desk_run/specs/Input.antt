@@ -37,10 +37,10 @@ pub record IsScreenSize (size : Size) : Type 0 where
   pub most_pixels : size.w * size.h ≤ 4194304
 
 -- the surface that a command reads is there
-abbrev pub IsKnown : DeskConfig → ScriptCommand → Type 0
-IsKnown config (Dump (Screen n)) = n < 1
-IsKnown config (Paint o) = Unit {0}
-IsKnown config Nothing = Unit {0}
+abbrev pub IsKnown : ScriptCommand → Type 0
+IsKnown (Dump (Screen n)) = n < 1
+IsKnown (Paint o) = Unit {0}
+IsKnown Nothing = Unit {0}
 
 -- the first refusal of a script, with its line and its number
 abbrev pub refused_script : Result (List ScriptCommand) Refusal → Result (List ScriptCommand) InputRefusal

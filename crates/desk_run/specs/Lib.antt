@@ -1,5 +1,10 @@
 pub mod Status
 pub mod Input
+pub mod Reports
+pub mod Desk
+pub mod Texts
+pub mod Run
+pub mod Answers
 pub mod Config
 pub mod Words
 pub mod Script

@@ -50,7 +50,7 @@ impl From<AllocError> for InputError {
 fn read_commands(alloc: Global, found: FoundLine<'_>) -> Result<Vec<ScriptCommand>, InputError>
     requires { found.before + 2 + length (lines_after (option_copied found.after)) < 2 ^ 64 }
     ensures value { AnswersScript result (script_of (found.entry.before + 2) (lines_after (option_copied found.entry.after))) }
-    ensures known { IfOk result (λ v. (config : DeskConfig) → All (λ c. IsKnown config c) v.items) }
+    ensures known { IfOk result (λ v. All IsKnown v.items) }
     ensures few { IfOk result (λ v. length v.items ≤ 100000) }
 {
     let text = match found.after {
@@ -72,7 +72,7 @@ pub fn read_input(alloc: Global, bytes: &[u8]) -> Result<Input, InputError>
     requires { length bytes.now ≤ most_bytes }
     ensures checked { AnswersInput result (checked bytes.now) }
     ensures size { IfOk result (λ i. IsScreenSize i.config.size) }
-    ensures known { IfOk result (λ i. All (λ c. IsKnown i.config c) i.commands.items) }
+    ensures known { IfOk result (λ i. All IsKnown i.commands.items) }
     ensures few { IfOk result (λ i. length i.commands.items ≤ 100000) }
 {
     let found = match find_line(bytes, b"%%") {

@@ -2,7 +2,6 @@
 
 ghost use Rattle.std.specs.Prelude.{◌≡◌, IfOk, map};
 ghost use Rattle.desk_run.specs.Input.{IsKnown};
-ghost use Rattle.desk_run.specs.declared.config.DeskConfig.{DeskConfig};
 ghost use Rattle.desk_run.specs.Script.Names.{names_of};
 ghost use Rattle.desk_run.specs.Script.Commands.{read_back, read_brushorg, read_dump, read_paint};
 
@@ -15,7 +14,7 @@ use crate::words::{Fault, count, word};
 #[tactic(auto, unfolding(crate::specs::Script::Commands::read_back))]
 pub fn back(words: &[&[u8]]) -> Result<ScriptCommand, Fault>
     ensures value { result ≡ read_back (map (λ w. w.now) words.now) }
-    ensures known { IfOk result (λ c. (config : DeskConfig) → IsKnown config c) }
+    ensures known { IfOk result IsKnown }
 {
     colour(word(words, 1))?;
     Ok(ScriptCommand::Nothing)
@@ -25,7 +24,7 @@ pub fn back(words: &[&[u8]]) -> Result<ScriptCommand, Fault>
 #[tactic(auto, unfolding(crate::specs::Script::Commands::read_brushorg))]
 pub fn brushorg(words: &[&[u8]]) -> Result<ScriptCommand, Fault>
     ensures value { result ≡ read_brushorg (map (λ w. w.now) words.now) }
-    ensures known { IfOk result (λ c. (config : DeskConfig) → IsKnown config c) }
+    ensures known { IfOk result IsKnown }
 {
     point(words, 1)?;
     Ok(ScriptCommand::Nothing)
@@ -35,7 +34,7 @@ pub fn brushorg(words: &[&[u8]]) -> Result<ScriptCommand, Fault>
 #[tactic(auto, unfolding(crate::specs::Script::Commands::read_dump))]
 pub fn dump(words: &[&[u8]]) -> Result<ScriptCommand, Fault>
     ensures value { result ≡ read_dump (map (λ w. w.now) words.now) }
-    ensures known { IfOk result (λ c. (config : DeskConfig) → IsKnown config c) }
+    ensures known { IfOk result IsKnown }
 {
     let surface = surface(word(words, 1))?;
     Ok(ScriptCommand::Dump(surface))
@@ -45,7 +44,7 @@ pub fn dump(words: &[&[u8]]) -> Result<ScriptCommand, Fault>
 #[tactic(auto, unfolding(crate::specs::Script::Commands::read_paint))]
 pub fn paint(names: &Names<'_>, words: &[&[u8]]) -> Result<ScriptCommand, Fault>
     ensures value { result ≡ read_paint (names_of names.now) (map (λ w. w.now) words.now) }
-    ensures known { IfOk result (λ c. (config : DeskConfig) → IsKnown config c) }
+    ensures known { IfOk result IsKnown }
 {
     target(names, word(words, 1))?;
     let rect = rect(words, 2)?;

@@ -2,7 +2,6 @@
 
 ghost use Rattle.std.specs.Prelude.{◌≡◌, ◌<◌, ◌^◌, map, IfOk};
 ghost use Rattle.desk_run.specs.Input.{IsKnown};
-ghost use Rattle.desk_run.specs.declared.config.DeskConfig.{DeskConfig};
 ghost use Rattle.desk_run.specs.declared.command.ScriptCommand.TheVariants.{Dump};
 ghost use Rattle.desk_run.specs.Script.Names.{names_of};
 ghost use Rattle.desk_run.specs.Script.Fields.{rgb_of, colour_at, coordinate_at, rect_at, point_at, is_well_ordered, target_at, brush_at, solid_of, hatch_at, face_at, surface_at};
@@ -148,7 +147,7 @@ pub fn face(words: &[&[u8]]) -> Result<Face, Fault>
 /// A screen by its number. A word that begins with a letter is a name.
 pub fn surface(word: &[u8]) -> Result<Named, Fault>
     ensures value { result ≡ surface_at word.now }
-    ensures known { IfOk result (λ n. (config : DeskConfig) → IsKnown config (Dump n)) }
+    ensures known { IfOk result (λ n. IsKnown (Dump n)) }
 {
     if word.first().is_some_and(|b| b.is_ascii_alphabetic()) {
         return Err(Fault::UnknownName);

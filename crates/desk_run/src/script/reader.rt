@@ -27,7 +27,6 @@ pub struct Reader<'a> {
 
 impl<'a> Reader<'a> {
     ghost use Rattle.desk_run.specs.Input.{IsKnown};
-    ghost use Rattle.desk_run.specs.declared.config.DeskConfig.{DeskConfig};
     ghost use Rattle.desk_run.specs.Script.State.{Reads, first_state, state_of};
     ghost use Rattle.desk_run.specs.Script.Reading.{ReadsText, read_text_line};
     ghost use Rattle.desk_run.specs.Script.Names.{names_of};
@@ -59,7 +58,7 @@ impl<'a> Reader<'a> {
     ) -> Result<Option<ScriptCommand>, ReadError>
         ensures value { ReadsText result (state_of self.new) (read_text_line commands (state_of self.old) line.now) }
         ensures few { IfOk result (λ asked. IfSome asked (λ _. commands < 100000)) }
-        ensures known { IfOk result (λ asked. IfSome asked (λ c. (config : DeskConfig) → IsKnown config c)) }
+        ensures known { IfOk result (λ asked. IfSome asked IsKnown) }
     {
         if line.first() == Some(&b'#') {
             return Ok(None);
@@ -97,7 +96,7 @@ impl<'a> Reader<'a> {
     fn table(&mut self, alloc: Global, words: &[&'a [u8]]) -> Result<ScriptCommand, ReadError>
         requires { 2 ≤ length words.now }
         ensures value { Reads result (state_of self.new) (read_table (state_of self.old) (map (λ w. w.now) words.now)) }
-        ensures known { IfOk result (λ c. (config : DeskConfig) → IsKnown config c) }
+        ensures known { IfOk result IsKnown }
     {
         let name = word(words, 1);
         self.new_name(name)?;
@@ -115,7 +114,7 @@ impl<'a> Reader<'a> {
     #[tactic(auto, unfolding(crate::specs::Script::Commands::read_brush))]
     fn brush(&mut self, words: &[&'a [u8]]) -> Result<ScriptCommand, ReadError>
         ensures value { Reads result (state_of self.new) (read_brush (state_of self.old) (map (λ w. w.now) words.now)) }
-        ensures known { IfOk result (λ c. (config : DeskConfig) → IsKnown config c) }
+        ensures known { IfOk result IsKnown }
     {
         let name = word(words, 1);
         self.new_name(name)?;
@@ -139,7 +138,7 @@ impl<'a> Reader<'a> {
     ) -> Result<ScriptCommand, ReadError>
         ensures value { Reads result (state_of self.new) (read_line commands (state_of self.old) (map (λ w. w.now) words.now)) }
         ensures few { IfOk result (λ _. commands < 100000) }
-        ensures known { IfOk result (λ c. (config : DeskConfig) → IsKnown config c) }
+        ensures known { IfOk result IsKnown }
     {
         if commands >= 100000 {
             return Err(ReadError::Fault(Fault::TooManyCommands));
@@ -163,7 +162,7 @@ impl<'a> Reader<'a> {
     ) -> Result<ScriptCommand, ReadError>
         requires { 2 ≤ length words.now }
         ensures value { Reads result (state_of self.new) (meaning_of verb (state_of self.old) (map (λ w. w.now) words.now)) }
-        ensures known { IfOk result (λ c. (config : DeskConfig) → IsKnown config c) }
+        ensures known { IfOk result IsKnown }
     {
         match verb {
             Verb::Back => Ok(back(words)?),

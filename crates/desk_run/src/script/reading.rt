@@ -3,7 +3,6 @@
 ghost use Rattle.std.specs.Prelude.{◌≡◌, ◌≤◌, ◌+◌, ◌<◌, ◌^◌, ◌++◌, All, IfOk, IfSome, OnOk, length};
 ghost use Rattle.std.specs.Option.{option_to_list};
 ghost use Rattle.desk_run.specs.Input.{IsKnown};
-ghost use Rattle.desk_run.specs.declared.config.DeskConfig.{DeskConfig};
 ghost use Rattle.desk_run.specs.Words.Lines.{lines_of};
 ghost use Rattle.desk_run.specs.Script.Reading.{Answers, Refuses, number_of_fault, read_lines};
 ghost use Rattle.desk_run.specs.Script.State.{first_state};
@@ -72,7 +71,7 @@ pub fn read_script(
     requires { first + length (lines_of text.now) < 2 ^ 64 }
     ensures value { Answers result (read_lines first 0 first_state (lines_of text.now)) }
     ensures few { IfOk result (λ v. length v.items ≤ 100000) }
-    ensures known { IfOk result (λ v. (config : DeskConfig) → All (λ c. IsKnown config c) v.items) }
+    ensures known { IfOk result (λ v. All IsKnown v.items) }
 {
     let mut reader = match Reader::new(alloc) {
         Ok(reader) => reader,

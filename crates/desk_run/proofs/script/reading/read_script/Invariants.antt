@@ -13,7 +13,7 @@ abbrev pub invariant-loop-more : goal.invariant-loop-more
 invariant-loop-more l = record {
   read : ReadTo (read_lines l.first 0 first_state (lines_of l.text)) (l.first + length (lines_of l.text)) l.number (length (lines_after (option_copied l.more))) l.commands.items (read_lines l.number (length l.commands.items) (state_of l.reader) (lines_after (option_copied l.more)));
   few : length l.commands.items ≤ 100000;
-  known : (config : DeskConfig) → All (λ c. IsKnown config c) l.commands.items;
+  known : All IsKnown l.commands.items;
 }
 
 abbrev pub decreases-loop-more : goal.decreases-loop-more

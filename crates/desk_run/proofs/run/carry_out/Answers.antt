@@ -1,0 +1,8 @@
+use Rattle.desk_run.proofs.CarryLemmas.{shows_paint, shows_dump, shows_nothing, text_paint, text_dump, text_nothing}
+use Rattle.desk_run.proofs.run.carry_out.Goals as goal
+
+pub returns-in-Dump-clause-shows : goal.returns-in-Dump-clause-shows
+returns-in-Dump-clause-shows g c state shows = shows_dump c.in-Dump.name c.args.command.now c.args.screen.now state c.in-Dump.is shows
+
+pub returns-in-Nothing-clause-shows : goal.returns-in-Nothing-clause-shows
+returns-in-Nothing-clause-shows g c state shows = shows_nothing c.args.command.now c.args.screen.now state c.in-Nothing.is shows

@@ -1,0 +1,83 @@
+//! The pixel values of a surface as text.
+
+ghost use Rattle.std.specs.Prelude.{◌≡◌, ◌<◌, ◌+◌, ◌*◌, length, is_err};
+ghost use Rattle.desk_io.specs.Sinks.{Puts};
+ghost use Rattle.desk_run.specs.Texts.{hex_digit, hex_digits, row_text, rows_text, dump_text, digits_of};
+
+use crate::command::Named;
+use crate::screen::Screen;
+use crate::text::{digits, head_line};
+use desk_io::{Sink, WriteFault, write_all};
+
+/// The hexadecimal digit of a number below 16.
+fn digit(n: u32) -> u8
+    requires { n < 16 }
+    ensures { result ≡ hex_digit n }
+{
+    if n < 10 {
+        b'0' + n as u8
+    } else {
+        b'a' + (n as u8 - 10)
+    }
+}
+
+/// Puts the last digits of a value into a cell, as many as it has places.
+#[tactic(auto, unfolding(crate::specs::Texts::hex_digits))]
+fn put_hex(cell: &mut [u8], value: u32)
+    ensures { cell.new ≡ hex_digits (length cell.old) value }
+{
+    let mut rest = value;
+    for k in (0..cell.len()).rev() {
+        cell[k] = digit(rest % 16);
+        rest /= 16;
+    }
+}
+
+/// Puts the line of a row, with so many digits for each value.
+fn put_row(line: &mut [u8], values: &[u32], digits: usize)
+    requires room { length line.old ≡ digits * length values.now + 1 }
+    ensures { line.new ≡ row_text digits values.now }
+{
+    for i in 0..values.len() {
+        let start = digits * i;
+        put_hex(&mut line[start..start + digits], values[i]);
+    }
+    line[digits * values.len()] = b'\n';
+}
+
+/// Writes the lines of the rows, each in one piece.
+fn put_rows<K: Sink>(
+    sink: &mut K,
+    screen: &Screen,
+    digits: usize,
+    line: &mut [u8],
+) -> Result<(), WriteFault>
+    requires { length line.old ≡ digits * screen.now.size.w + 1 }
+    ensures { Puts (rows_text digits screen.now.size.w screen.now.size.h screen.now.values) (K.written sink.old) (K.written sink.new) (K.faults sink.old) (K.faults sink.new) (is_err result) }
+{
+    for y in 0..screen.size().h {
+        put_row(line, screen.row(y), digits);
+        if write_all(sink, line).is_err() {
+            return Err(WriteFault);
+        }
+    }
+    Ok(())
+}
+
+/// Writes the lines of a dump: its head, and a line for each row.
+pub fn put_dump<K: Sink>(
+    sink: &mut K,
+    name: Named,
+    screen: &Screen,
+    line: &mut [u8],
+) -> Result<(), WriteFault>
+    requires { length line.old ≡ digits_of screen.now.format * screen.now.size.w + 1 }
+    ensures { Puts (dump_text name screen.now) (K.written sink.old) (K.written sink.new) (K.faults sink.old) (K.faults sink.new) (is_err result) }
+{
+    let format = screen.format();
+    let head = head_line(name, screen.size(), format);
+    if write_all(sink, head.as_slice()).is_err() {
+        return Err(WriteFault);
+    }
+    put_rows(sink, screen, digits(format), line)
+}

@@ -1,0 +1,9 @@
+use Rattle.std.proofs.Common.{◌≡◌, ℕ, ◌<◌, ◌≤◌, get_or}
+use Rattle.pix_format.proofs.row.look_up.Given as goal
+
+-- the values below i are new, the others old
+abbrev pub invariant-loop-i : goal.invariant-loop-i
+invariant-loop-i l = record {
+  done : (k : ℕ) → k < l.i → get_or l.values k 0 ≡ get_or l.table (get_or l.initial.values k 0) 0;
+  rest : (k : ℕ) → l.i ≤ k → get_or l.values k 0 ≡ get_or l.initial.values k 0;
+}
