@@ -6,6 +6,7 @@ mod kinds;
 mod names;
 mod reader;
 mod reading;
+mod tails;
 mod verb;
 
 pub use reading::{ScriptRefusal, read_script};

@@ -5,6 +5,8 @@ use Rattle.std.specs.Ordering.{nat_cmp}
 use Rattle.std.specs.Cmp.Lexicographic.{slice_cmp}
 use Rattle.std.specs.BTreeMap.{get_by}
 use Rattle.std.specs.Str.{bytes_eq}
+use Rattle.pix_format.specs.declared.rgb.Rgb.{Rgb}
+use Rattle.desk_run.specs.declared.script.kinds.Face.{Face}
 use Rattle.desk_run.specs.declared.script.kinds.Entry.{Entry}
 use Rattle.desk_run.specs.declared.script.kinds.Entry.TheVariants as entries
 use Rattle.desk_run.specs.declared.script.names.Names.{Names}
@@ -13,10 +15,14 @@ use Rattle.desk_run.specs.declared.script.names.Names.{Names}
 pub data Name : Type 0 where
   screen : Name
   no_clip : Name
+  table : List Rgb → Name
+  brush : Face → Name
 
 abbrev pub name_of : Entry → Name
 name_of entries.Screen = screen
 name_of entries.NoClip = no_clip
+name_of (entries.Table colours) = table colours.items
+name_of (entries.Brush face) = brush face
 
 -- what each word stands for, where it is a name in use
 abbrev pub NameMap : Type 0

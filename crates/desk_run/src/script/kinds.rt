@@ -1,5 +1,27 @@
 //! What a name may stand for.
 
+use pix_format::Rgb;
+
+/// The lines of a hatch brush.
+#[derive(Clone, Copy, Debug, PartialEq, Eq)]
+pub enum Hatch {
+    Horizontal,
+    Vertical,
+    FDiagonal,
+    BDiagonal,
+    Cross,
+    DiagCross,
+}
+
+/// What a brush paints.
+#[derive(Clone, Copy, Debug, PartialEq, Eq)]
+pub enum Face {
+    /// One colour.
+    Solid(Rgb),
+    /// Lines of the first colour on the second.
+    Hatch(Hatch, Rgb, Rgb),
+}
+
 /// What a name stands for.
 #[derive(Debug, Drop)]
 pub enum Entry {
@@ -7,4 +29,7 @@ pub enum Entry {
     Screen,
     /// No clip.
     NoClip,
+    /// The colours of a table.
+    Table(Vec<Rgb>),
+    Brush(Face),
 }

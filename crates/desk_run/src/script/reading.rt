@@ -3,7 +3,6 @@
 ghost use Rattle.std.specs.Prelude.{◌≡◌, ◌≤◌, ◌+◌, ◌<◌, ◌^◌, ◌++◌, All, IfOk, IfSome, OnOk, length};
 ghost use Rattle.std.specs.Option.{option_to_list};
 ghost use Rattle.desk_run.specs.Input.{IsKnown};
-ghost use Rattle.desk_run.specs.declared.config.DeskConfig.{DeskConfig};
 ghost use Rattle.desk_run.specs.Words.Lines.{lines_of};
 ghost use Rattle.desk_run.specs.Script.Reading.{Answers, Refuses, number_of_fault, read_lines};
 ghost use Rattle.desk_run.specs.Script.State.{first_state};
