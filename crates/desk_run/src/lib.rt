@@ -10,5 +10,6 @@ pub mod run;
 pub mod screen;
 mod script;
 pub mod status;
+mod sum;
 mod text;
 mod words;
