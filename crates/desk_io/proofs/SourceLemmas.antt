@@ -1,10 +1,9 @@
 -- Reading by pieces.
-use Rattle.std.proofs.Common.{◌≡◌, ℕ, ◌+◌, ◌≤◌, ◌<◌, List, [], ◌++◌, length, take, drop, Option, Some, Result, Ok, Err, Vec, ap, sym, ◌∙◌, refl, append_assoc, append-nil, take-append-drop, length-append, length-drop, le_refl, arith}
+use Rattle.std.proofs.Common.{◌≡◌, ℕ, ◌+◌, ◌≤◌, ◌<◌, List, [], ◌++◌, length, take, drop, Option, Some, Ok, Err, Vec, ap, sym, ◌∙◌, refl, append_assoc, append-nil, take-append-drop, length-append, le_refl, arith}
 use Rattle.std.proofs.lemmas.List.{length-take-le}
 use Rattle.std.proofs.Math.Seq.{drop-append_seam, drop-append-add, drop-nil}
 use Rattle.std.specs.declared.alloc.Global.{Global}
 use Rattle.desk_io.specs.declared.source.ReadFault.{ReadFault}
-use Rattle.desk_io.specs.declared.reading.ReadRefusal.{ReadRefusal}
 use Rattle.desk_io.specs.declared.reading.ReadRefusal.TheVariants.{Fault, Size, NoMemory}
 use Rattle.desk_io.specs.Sources.{Given, Takes, ReadsAll, BrokeOff, most_bytes}
 

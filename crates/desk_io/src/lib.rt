@@ -2,6 +2,9 @@
 //!
 //! A trait's contract is one record over the state before and after a call. What a source has left and what a
 //! sink was given is told by those over memory and not by those over streams, so each is an `Option`.
+//!
+//! `MemSource` and `MemSink` fail exactly at the calls that they are given. `StdSource` and `StdSink` are the
+//! trusted edge: what a terminal, a pipe or a file gave or got is not known.
 #![tactic(auto)]
 
 mod mem_sink;

@@ -29,7 +29,14 @@ impl Model for MemSink {
 
     ghost Value = { MemSinkState };
 
-    ghost view = { λ s. record { written = take s.filled s.bytes.items; room = length s.bytes.items; step = s.step; fails = s.fails.items; calls = s.calls; faults = s.faults } };
+    ghost view = { λ s. record {
+      written = take s.filled s.bytes.items;
+      room = length s.bytes.items;
+      step = s.step;
+      fails = s.fails.items;
+      calls = s.calls;
+      faults = s.faults;
+    } };
 
     ghost invariant = { λ s. (s.filled ≤ length s.bytes.items) × (1 ≤ s.step) };
 }
@@ -77,15 +84,14 @@ impl Sink for MemSink {
     ghost faults = { λ s. s.faults };
 
     fn write(&mut self, piece: &[u8]) -> Result<usize, WriteFault>
-        ensures appends { Appends piece.now (Some self.old.written) (Some self.new.written) self.old.faults self.new.faults result }
+        ensures appends { Appends piece.now (Some self.old.written) (Some self.new.written)
+            self.old.faults self.new.faults result }
         ensures fails { IsErr result ↔ FailsAt self.old piece.now }
         ensures count { IfOk result (λ n. n ≡ taken_count self.old piece.now) }
         ensures state { self.new ≡ after_write self.old piece.now result }
     {
-        let count = self
-            .step
-            .min(piece.len())
-            .min(self.bytes.len() - self.filled);
+        let room = self.bytes.len() - self.filled;
+        let count = self.step.min(piece.len()).min(room);
         let is_full = count == 0 && !piece.is_empty();
         self.calls = self.calls.saturating_add(1);
         if is_full || self.fails.contains(&self.calls) {

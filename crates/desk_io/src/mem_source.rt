@@ -28,7 +28,13 @@ impl Model for MemSource {
 
     ghost Value = { MemSourceState };
 
-    ghost view = { λ s. record { left = drop s.given s.bytes.items; step = s.step; fails = s.fails.items; calls = s.calls; faults = s.faults } };
+    ghost view = { λ s. record {
+      left = drop s.given s.bytes.items;
+      step = s.step;
+      fails = s.fails.items;
+      calls = s.calls;
+      faults = s.faults;
+    } };
 
     ghost invariant = { λ s. (s.given ≤ length s.bytes.items) × (1 ≤ s.step) };
 }
@@ -65,7 +71,8 @@ impl Source for MemSource {
 
     fn read(&mut self, buf: &mut [u8]) -> Result<usize, ReadFault>
         requires { 0 < length buf.old }
-        ensures takes { Takes (Some self.old.left) (Some self.new.left) self.old.faults self.new.faults buf.new result }
+        ensures takes { Takes (Some self.old.left) (Some self.new.left)
+            self.old.faults self.new.faults buf.new result }
         ensures fails { IsErr result ↔ Contains self.old.fails (one_more self.old.calls) }
         ensures count { IfOk result (λ n. n ≡ given_count self.old (length buf.old)) }
         ensures given { IfOk result (λ n. buf.new ≡ take n self.old.left ++ drop n buf.old) }

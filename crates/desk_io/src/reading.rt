@@ -46,8 +46,12 @@ impl From<AllocError> for ReadRefusal {
 }
 
 /// Reads a source to its end, or until one byte more came than an input may have.
+///
+/// The answer is `Fault` only where the source's count of faults rose, and `Size` where byte
+/// 16,777,217 came, after which nothing more is read.
 pub fn read_all<S: Source>(alloc: Global, source: &mut S) -> Result<Vec<u8>, ReadRefusal>
-    ensures { ReadsAll (S.left source.old) (S.left source.new) (S.faults source.old) (S.faults source.new) result }
+    ensures { ReadsAll (S.left source.old) (S.left source.new)
+        (S.faults source.old) (S.faults source.new) result }
 {
     let mut piece = zeros(alloc, PIECE_BYTES)?;
     read_by_pieces(alloc, source, &mut piece)
@@ -67,7 +71,8 @@ fn read_by_pieces<S: Source>(
     piece: &mut [u8],
 ) -> Result<Vec<u8>, ReadRefusal>
     requires { 0 < length piece.old }
-    ensures { ReadsAll (S.left source.old) (S.left source.new) (S.faults source.old) (S.faults source.new) result }
+    ensures { ReadsAll (S.left source.old) (S.left source.new)
+        (S.faults source.old) (S.faults source.new) result }
 {
     let mut bytes = Vec::new(alloc);
     loop {

@@ -12,6 +12,9 @@ use std::io::{ErrorKind, Write};
 const MOST_TRIES: u32 = 1_000;
 
 /// A sink over a writer. What the writer was given isn't told.
+///
+/// A write that is interrupted is made again. Any other error of the writer is a fault, and so is a
+/// write that takes nothing of a piece that isn't empty. Nothing is flushed.
 #[derive(Drop)]
 pub struct StdSink<W> {
     writer: W,
@@ -38,9 +41,12 @@ impl<W: Write> Sink for StdSink<W> {
     ghost faults = { write_faults };
 
     fn write(&mut self, piece: &[u8]) -> Result<usize, WriteFault>
-        ensures appends { AppendsTold piece.now None None (write_faults self.old) (write_faults self.new) result }
-        ensures writes { WriteAppends (W.contents (writer_of self.old)) (W.contents (writer_of self.new)) result piece.now }
-        ensures counts { write_faults self.new ≡ (if is_err result then one_more (write_faults self.old) else write_faults self.old) }
+        ensures appends { AppendsTold piece.now None None
+            (write_faults self.old) (write_faults self.new) result }
+        ensures writes { WriteAppends (W.contents (writer_of self.old))
+            (W.contents (writer_of self.new)) result piece.now }
+        ensures counts { write_faults self.new ≡
+            (if is_err result then one_more (write_faults self.old) else write_faults self.old) }
     {
         for _ in 0..MOST_TRIES {
             match self.writer.write(piece) {

@@ -12,6 +12,8 @@ use std::io::{ErrorKind, Read};
 const MOST_TRIES: u32 = 1_000;
 
 /// A source over a reader. What the reader gives isn't told.
+///
+/// A read that is interrupted is made again, and any other error of the reader is a fault.
 #[derive(Drop)]
 pub struct StdSource<R> {
     reader: R,
@@ -39,9 +41,12 @@ impl<R: Read> Source for StdSource<R> {
 
     fn read(&mut self, buf: &mut [u8]) -> Result<usize, ReadFault>
         requires { 0 < length buf.old }
-        ensures takes { Takes None None (read_faults self.old) (read_faults self.new) buf.new result }
-        ensures reads { ReadConsumes (R.remaining (reader_of self.old)) (R.remaining (reader_of self.new)) result buf.new }
-        ensures counts { read_faults self.new ≡ (if is_err result then one_more (read_faults self.old) else read_faults self.old) }
+        ensures takes { Takes None None (read_faults self.old) (read_faults self.new)
+            buf.new result }
+        ensures reads { ReadConsumes (R.remaining (reader_of self.old))
+            (R.remaining (reader_of self.new)) result buf.new }
+        ensures counts { read_faults self.new ≡
+            (if is_err result then one_more (read_faults self.old) else read_faults self.old) }
     {
         for _ in 0..MOST_TRIES {
             match self.reader.read(buf) {

@@ -1,6 +1,6 @@
 use Rattle.std.proofs.Common.{◌≡◌, ℕ, Bool, true, false, List, ◌++◌, Option, refl, sym, ap, ◌∙◌}
-use Rattle.geom_base.specs.declared.Size.{Size}
-use Rattle.pix_format.specs.declared.Format.{Format}
+use Rattle.geom_base.specs.declared.size.Size.{Size}
+use Rattle.pix_format.specs.declared.format.Format.{Format}
 use Rattle.desk_io.specs.Sinks.{Puts, puts_on, puts_stopped}
 use Rattle.surf_obj.specs.Surface.{Surface}
 use Rattle.desk_run.specs.declared.command.Named.{Named}

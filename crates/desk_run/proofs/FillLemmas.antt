@@ -4,10 +4,10 @@ use Rattle.std.proofs.lemmas.Nat.{mul-add-lt}
 use Rattle.std.proofs.lemmas.List.{places, get_or-replicate, length-take, length-append, length-drop, length-replicate}
 use Rattle.std.proofs.Math.Nat.{mul-le-mul_right, mul_comm}
 use borrow.Rule.Slice.PartMut.{put_mid}
-use Rattle.geom_base.specs.declared.Point.{Point}
-use Rattle.geom_base.specs.declared.Rect.{Rect}
+use Rattle.geom_base.specs.declared.point.Point.{Point}
+use Rattle.geom_base.specs.declared.rect.Rect.{Rect}
 use Rattle.std.proofs.lemmas.Int.{ints}
-use Rattle.geom_base.specs.declared.Size.{Size}
+use Rattle.geom_base.specs.declared.size.Size.{Size}
 use Rattle.geom_base.specs.Points.{is_in, box_of}
 use Rattle.geom_base.proofs.GridLemmas.{same_grid}
 use Rattle.surf_obj.specs.Surface.{point_at, value_at, redrawn}

@@ -1,7 +1,7 @@
 use Rattle.std.proofs.Common.{◌≡◌, ℕ, ◌*◌, ◌<◌, List, length, Some, refl, sym, ap, ◌∙◌}
-use Rattle.geom_base.specs.declared.Rect.{Rect}
+use Rattle.geom_base.specs.declared.rect.Rect.{Rect}
 use Rattle.geom_base.specs.Points.{is_in, box_of}
-use Rattle.pix_format.specs.declared.Rgb.{Rgb}
+use Rattle.pix_format.specs.declared.rgb.Rgb.{Rgb}
 use Rattle.pix_format.specs.Value.{value_of}
 use Rattle.surf_obj.specs.Surface.{Surface, point_at, redrawn}
 use Rattle.surf_obj.proofs.StepLemmas.{redrawn_same}

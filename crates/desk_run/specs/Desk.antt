@@ -1,11 +1,11 @@
 -- The state of a desk, and one command on it.
 use Rattle.std.specs.Prelude.{◌≡◌, ℕ, ◌*◌, Bool, true, false, List, replicate, Option, Some, None, option_map, unwrap_or, ◌&&◌, nat_eq, if◌then◌else◌}
-use Rattle.geom_base.specs.declared.Point.{Point}
-use Rattle.geom_base.specs.declared.Size.{Size}
+use Rattle.geom_base.specs.declared.point.Point.{Point}
+use Rattle.geom_base.specs.declared.size.Size.{Size}
 use Rattle.geom_base.specs.Points.{is_in}
-use Rattle.pix_format.specs.declared.Format.{Format}
-use Rattle.pix_format.specs.declared.Format.TheVariants.{B8}
-use Rattle.pix_format.specs.declared.Rgb.{Rgb}
+use Rattle.pix_format.specs.declared.format.Format.{Format}
+use Rattle.pix_format.specs.declared.format.Format.TheVariants.{B8}
+use Rattle.pix_format.specs.declared.rgb.Rgb.{Rgb}
 use Rattle.pix_format.specs.Standard.{standard_colours}
 use Rattle.pix_format.specs.Value.{value_of}
 use Rattle.surf_obj.specs.Surface.{Surface, redrawn}

@@ -2,7 +2,7 @@
 use Rattle.std.specs.Prelude.{◌≡◌, ℕ, ◌+◌, ◌*◌, ◌≤◌, ◌<◌, List, take, drop, length, codes, Option, Some, None, Result, Ok, Err, Vec, nat_lt, if◌then◌else◌}
 use Rattle.std.specs.declared.alloc.Global.{Global}
 use Rattle.desk_io.specs.Sources.{most_bytes}
-use Rattle.geom_base.specs.declared.Size.{Size}
+use Rattle.geom_base.specs.declared.size.Size.{Size}
 use Rattle.desk_run.specs.declared.command.ScriptCommand.{ScriptCommand}
 use Rattle.desk_run.specs.declared.command.ScriptCommand.TheVariants.{Paint, Dump, Sum, Nothing}
 use Rattle.desk_run.specs.declared.command.Named.{Named}

@@ -2,10 +2,10 @@
 use Rattle.std.specs.Prelude.{ℕ, zero, suc, ◌+◌, ◌*◌, ◌/◌, ◌%◌, ◌^◌, List, [], ◌∷◌, ◌++◌, length, take, drop, codes, decimal, nat_lt, if◌then◌else◌}
 use Rattle.std.specs.List.{flat_map, fold}
 use Rattle.std.specs.Fmt.{signed_decimal}
-use Rattle.geom_base.specs.declared.Rect.{Rect}
-use Rattle.geom_base.specs.declared.Size.{Size as SurfaceSize}
-use Rattle.pix_format.specs.declared.Format.{Format}
-use Rattle.pix_format.specs.declared.Format.TheVariants.{B1, B4, B8, B555, B565, B24, B32}
+use Rattle.geom_base.specs.declared.rect.Rect.{Rect}
+use Rattle.geom_base.specs.declared.size.Size.{Size as SurfaceSize}
+use Rattle.pix_format.specs.declared.format.Format.{Format}
+use Rattle.pix_format.specs.declared.format.Format.TheVariants.{B1, B4, B8, B555, B565, B24, B32}
 use Rattle.surf_obj.specs.Surface.{Surface}
 use Rattle.desk_run.specs.declared.command.Named.{Named}
 use Rattle.desk_run.specs.declared.command.Named.TheVariants.{Screen}

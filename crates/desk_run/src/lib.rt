@@ -11,5 +11,7 @@ pub mod screen;
 mod script;
 pub mod status;
 mod sum;
+#[cfg(test)]
+mod tests;
 mod text;
 mod words;

@@ -1,7 +1,7 @@
 //! The pixels of the desk's screen.
 
 ghost use Rattle.std.specs.Prelude.{◌≡◌, ◌≤◌, ◌<◌, ◌*◌, ℕ, pos, length, int_le, nat_le, IfOk, Some, take, drop};
-ghost use Rattle.pix_format.specs.declared.Format.TheVariants as format;
+ghost use Rattle.pix_format.specs.declared.format.Format.TheVariants as format;
 ghost use Rattle.pix_format.specs.Standard.{standard_colours};
 ghost use Rattle.desk_run.specs.Input.{IsScreenSize};
 ghost use Rattle.geom_base.specs.Points.{is_in, box_of};

@@ -27,14 +27,3 @@ pub fn put_sum<K: Sink>(sink: &mut K, name: Named, screen: &Screen) -> Result<()
     let line = sum_line(name, sum(screen.values()));
     write_all(sink, line.as_slice())
 }
-
-#[cfg(test)]
-mod tests {
-    use super::*;
-
-    #[test]
-    fn sums_row_by_row(rt: HostRuntime) {
-        let values = [0, 0xe0, 0xe0, 0, 0, 0xe0, 0xe0, 0];
-        assert_eq!(rt; sum(&values), 0x2fc7b4c800);
-    }
-}

@@ -1,4 +1,4 @@
-use Rattle.std.proofs.Common.{◌≡◌, ℕ, ◌+◌, ◌<◌, ◌≤◌, ◌^◌, List, [], ◌∷◌, ◌++◌, Vec, Global, length, get_or, map, All, Bool, true, false, cond, ◌&&◌, arith, rules, sym, refl, ap, ◌∙◌}
+use Rattle.std.proofs.Common.{◌≡◌, ℕ, ◌+◌, ◌<◌, ◌≤◌, ◌^◌, List, [], ◌∷◌, ◌++◌, Vec, Global, length, get_or, map, All, Bool, true, false, cond, ◌&&◌, arith, sym, refl, ap, ◌∙◌}
 use Rattle.std.specs.Prelude.{EachIndex, slice_index, ◌↔◌, ◌==◌, if◌then◌else◌, nat_le}
 use Rattle.std.specs.List.{range_with_len}
 use Rattle.std.specs.Cmp.Lexicographic.{pointwise, pointwise_decides}

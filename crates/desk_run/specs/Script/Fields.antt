@@ -2,9 +2,9 @@
 use Rattle.std.specs.Prelude.{ℕ, ◌+◌, ◌/◌, ◌%◌, ℤ, pos, negsuc, int_le, List, drop, slice_index, codes, Option, Some, is_none, Result, Ok, Err, Bool, ◌==◌, ◌&&◌, if◌then◌else◌}
 use Rattle.std.specs.Char.{is_ascii_alphabetic}
 use Rattle.std.specs.Str.{bytes_eq}
-use Rattle.geom_base.specs.declared.Point.{Point}
-use Rattle.geom_base.specs.declared.Rect.{Rect}
-use Rattle.pix_format.specs.declared.Rgb.{Rgb}
+use Rattle.geom_base.specs.declared.point.Point.{Point}
+use Rattle.geom_base.specs.declared.rect.Rect.{Rect}
+use Rattle.pix_format.specs.declared.rgb.Rgb.{Rgb}
 use Rattle.desk_run.specs.declared.command.Named.{Named}
 use Rattle.desk_run.specs.declared.command.Named.TheVariants.{Screen}
 use Rattle.desk_run.specs.declared.words.fault.Fault.{Fault}

@@ -5,7 +5,7 @@ use Rattle.std.specs.Ordering.{nat_cmp}
 use Rattle.std.specs.Cmp.Lexicographic.{slice_cmp}
 use Rattle.std.specs.BTreeMap.{get_by}
 use Rattle.std.specs.Str.{bytes_eq}
-use Rattle.pix_format.specs.declared.Rgb.{Rgb}
+use Rattle.pix_format.specs.declared.rgb.Rgb.{Rgb}
 use Rattle.desk_run.specs.declared.script.kinds.Face.{Face}
 use Rattle.desk_run.specs.declared.script.kinds.Entry.{Entry}
 use Rattle.desk_run.specs.declared.script.kinds.Entry.TheVariants as entries

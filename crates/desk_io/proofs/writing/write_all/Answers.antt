@@ -1,4 +1,4 @@
-use Rattle.std.proofs.Common.{arith, is_err, true, Err, IsTrue, ◌≡◌, ap, subst}
+use Rattle.std.proofs.Common.{arith}
 use Rattle.std.proofs.lemmas.Grind.{common_steps}
 use Rattle.std.proofs.lemmas.Result.{err_from_is_err_and}
 use Rattle.desk_io.proofs.SinkLemmas.{put_more, put_stop}

@@ -1,5 +1,5 @@
 use Rattle.std.proofs.Common.{◌≡◌, ◌∙◌, ◌*◌, ◌+◌, ap, sym, refl, true, false, length, [], ◌∷◌, ◌++◌, ℕ}
-use Rattle.pix_format.specs.declared.Format.{Format}
+use Rattle.pix_format.specs.declared.format.Format.{Format}
 use Rattle.desk_run.specs.Desk.{State}
 use Rattle.desk_run.specs.Run.{text_of}
 use Rattle.desk_run.specs.Texts.{digits_of}

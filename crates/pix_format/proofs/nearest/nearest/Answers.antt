@@ -1,7 +1,4 @@
-use Rattle.std.proofs.Common.{◌≡◌, ◌<◌, ◌*◌, length, arith, get_or, sym, ap, ◌∙◌, rules}
-use Rattle.std.proofs.lemmas.List.{get_or_default}
-use Rattle.pix_format.specs.Colour.{distance}
-use Rattle.pix_format.specs.Value.{black}
+use Rattle.std.proofs.Common.{◌≡◌, ◌*◌, length, arith, ap}
 use Rattle.pix_format.proofs.TableLemmas.{IsFirstBest-nearest, IsLeast-none, IsLeast-more}
 use Rattle.pix_format.proofs.nearest.nearest.Goals as goal
 

@@ -1,4 +1,4 @@
-use Rattle.std.proofs.Common.{◌≡◌, ◌<◌, ◌^◌, arith, rules}
+use Rattle.std.proofs.Common.{◌<◌, ◌^◌}
 use Rattle.std.proofs.lemmas.List.Elements.{All-push}
 use Rattle.pix_format.specs.Value.{bits_of}
 use Rattle.pix_format.specs.Translate.{recoloured}

@@ -1,6 +1,5 @@
-use Rattle.std.proofs.Common.{◌≡◌, arith}
+use Rattle.std.proofs.Common.{arith}
 use Rattle.pix_format.specs.Standard.{standard_colour, standard_colours}
-use Rattle.pix_format.specs.Value.{colours_of}
 use Rattle.pix_format.proofs.XlateLemmas.{tabulated-push, tabulated-all}
 use Rattle.pix_format.proofs.colour_table.ColourTable.standard.Goals as goal
 

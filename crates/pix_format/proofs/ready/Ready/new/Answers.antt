@@ -1,4 +1,4 @@
-use Rattle.std.proofs.Common.{arith, rules, sym, ◌∙◌}
+use Rattle.std.proofs.Common.{arith, sym, ◌∙◌}
 use Rattle.pix_format.proofs.XlateLemmas.{IsReady-values}
 use Rattle.pix_format.proofs.ready.Ready.new.Goals as goal
 

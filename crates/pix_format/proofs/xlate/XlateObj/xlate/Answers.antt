@@ -1,4 +1,4 @@
-use Rattle.std.proofs.Common.{◌≡◌, ◌∙◌, arith}
+use Rattle.std.proofs.Common.{◌∙◌, arith}
 use Rattle.pix_format.proofs.XlateLemmas.{IsReady-entry, IsReady-fits}
 use Rattle.pix_format.proofs.xlate.XlateObj.xlate.Goals as goal
 

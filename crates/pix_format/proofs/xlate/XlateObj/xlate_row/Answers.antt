@@ -1,4 +1,4 @@
-use Rattle.std.proofs.Common.{◌≡◌, ◌∙◌, arith, rules}
+use Rattle.std.proofs.Common.{rules}
 use Rattle.pix_format.proofs.ValueLemmas.{values-fit}
 use Rattle.pix_format.proofs.XlateLemmas.{looked_up-translated, looked_up-fit}
 use Rattle.pix_format.proofs.xlate.XlateObj.xlate_row.Goals as goal

@@ -1,0 +1,120 @@
+ghost use Rattle.std.specs.Prelude.{◌≡◌, pos, ◌+ℤ◌, ◌≤ℤ◌, ◌<ℤ◌, ◌↔◌, IsTrue, FitsSigned};
+ghost use Rattle.std.specs.Int.{w32};
+ghost use Rattle.geom_base.specs.Points.{IsIn, moved, no_rect, moved_rect};
+ghost use Rattle.geom_base.specs.declared.point.Point.{Point};
+
+use crate::point::Point;
+
+/// A rectangle by its edges; its right and its lower edge are not part of it.
+#[derive(Clone, Copy, Debug, PartialEq, Eq)]
+pub struct Rect {
+    pub left: i32,
+    pub top: i32,
+    pub right: i32,
+    pub bottom: i32,
+}
+
+/// The rectangle that stands for no point.
+const NO_RECT: Rect = Rect {
+    left: 0,
+    top: 0,
+    right: 0,
+    bottom: 0,
+};
+
+impl Rect {
+    /// The common points; a rectangle of zeros where there are none.
+    pub fn intersect(self, other: Rect) -> Rect
+        ensures common { (p : Point) → IsIn p result ↔ (IsIn p self × IsIn p other) }
+        ensures zeros { ((p : Point) → ¬ IsIn p result) → result ≡ no_rect }
+    {
+        let left = self.left.max(other.left);
+        let top = self.top.max(other.top);
+        let right = self.right.min(other.right);
+        let bottom = self.bottom.min(other.bottom);
+        if right <= left {
+            return NO_RECT;
+        }
+        if bottom <= top {
+            return NO_RECT;
+        }
+        Rect {
+            left,
+            top,
+            right,
+            bottom,
+        }
+    }
+
+    /// The rectangle with each edge moved: its points are those of this one, moved.
+    pub fn shifted(self, by: Point) -> Rect
+        requires left { FitsSigned w32 (self.left +ℤ by.x) }
+        requires top { FitsSigned w32 (self.top +ℤ by.y) }
+        requires right { FitsSigned w32 (self.right +ℤ by.x) }
+        requires bottom { FitsSigned w32 (self.bottom +ℤ by.y) }
+        ensures edges { result ≡ moved_rect self by }
+        ensures points { (p : Point) → IsIn (moved p by) result ↔ IsIn p self }
+    {
+        Rect {
+            left: self.left + by.x,
+            top: self.top + by.y,
+            right: self.right + by.x,
+            bottom: self.bottom + by.y,
+        }
+    }
+
+    /// Whether a point is in the rectangle.
+    pub fn holds(self, p: Point) -> bool
+        ensures { IsTrue result ↔ IsIn p self }
+    {
+        is_within(self.left, p.x, self.right) && is_within(self.top, p.y, self.bottom)
+    }
+}
+
+/// Whether a coordinate lies from one edge to before another.
+fn is_within(from: i32, at: i32, to: i32) -> bool
+    ensures { IsTrue result ↔ ((from ≤ℤ at) × (at <ℤ to)) }
+{
+    from <= at && at < to
+}
+
+#[cfg(test)]
+mod tests {
+    use super::*;
+
+    fn rect(left: i32, top: i32, right: i32, bottom: i32) -> Rect {
+        Rect {
+            left,
+            top,
+            right,
+            bottom,
+        }
+    }
+
+    #[test]
+    fn intersections(rt: HostRuntime) {
+        let cases = [
+            (rect(0, 0, 4, 4), rect(2, -1, 9, 3), rect(2, 0, 4, 3)),
+            (rect(0, 0, 4, 4), rect(4, 0, 8, 4), rect(0, 0, 0, 0)),
+            (rect(5, 5, 5, 9), rect(0, 0, 9, 9), rect(0, 0, 0, 0)),
+        ];
+        for (a, b, want) in cases {
+            assert_eq!(rt; a.intersect(b), want, "{a:?} and {b:?}");
+        }
+    }
+
+    #[test]
+    fn edges_and_shifts(rt: HostRuntime) {
+        let start = Rect {
+            left: 1,
+            top: 2,
+            right: 3,
+            bottom: 4,
+        };
+        let moved = start.shifted(Point { x: -3, y: 5 });
+        assert_eq!(rt; moved, rect(-2, 7, 0, 9));
+        for (x, y, want) in [(-2, 7, true), (0, 8, false), (-1, 9, false), (-1, 8, true)] {
+            assert_eq!(rt; moved.holds(Point { x, y }), want, "{x} {y}");
+        }
+    }
+}
