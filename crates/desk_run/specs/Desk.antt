@@ -13,7 +13,7 @@ use Rattle.desk_run.specs.declared.command.Named.{Named}
 use Rattle.desk_run.specs.declared.command.Named.TheVariants.{Screen}
 use Rattle.desk_run.specs.declared.command.PaintOrder.{PaintOrder}
 use Rattle.desk_run.specs.declared.command.ScriptCommand.{ScriptCommand}
-use Rattle.desk_run.specs.declared.command.ScriptCommand.TheVariants.{Paint, Dump, Nothing}
+use Rattle.desk_run.specs.declared.command.ScriptCommand.TheVariants.{Paint, Dump, Sum, Nothing}
 use Rattle.desk_run.specs.declared.config.DeskConfig.{DeskConfig}
 use Rattle.desk_run.specs.Reports.{Told, report_on, part_of}
 
@@ -67,12 +67,14 @@ untouched p old = None
 abbrev pub area_of : ScriptCommand → Named → Area
 area_of (Paint o) (Screen n) = reach_of o
 area_of (Dump s) q = nowhere
+area_of (Sum s) q = nowhere
 area_of Nothing q = nowhere
 
 -- the new value at a point of a target, by the state before the command
 abbrev pub new_of : State → ScriptCommand → Named → Change
 new_of state (Paint o) q = painted (surface_of state q) o.colour
 new_of state (Dump s) q = untouched
+new_of state (Sum s) q = untouched
 new_of state Nothing q = untouched
 
 -- The state after a command with these reports: each point of its area has its new value; of a target with a report only the

@@ -4,7 +4,8 @@ use Rattle.std.specs.declared.alloc.Global.{Global}
 use Rattle.desk_io.specs.Sources.{most_bytes}
 use Rattle.geom_base.specs.declared.size.Size.{Size}
 use Rattle.desk_run.specs.declared.command.ScriptCommand.{ScriptCommand}
-use Rattle.desk_run.specs.declared.command.ScriptCommand.TheVariants.{Paint, Dump, Nothing}
+use Rattle.desk_run.specs.declared.command.ScriptCommand.TheVariants.{Paint, Dump, Sum, Nothing}
+use Rattle.desk_run.specs.declared.command.Named.{Named}
 use Rattle.desk_run.specs.declared.command.Named.TheVariants.{Screen}
 use Rattle.desk_run.specs.declared.config.DeskConfig.{DeskConfig}
 use Rattle.desk_run.specs.declared.input.Input.{Input}
@@ -36,9 +37,14 @@ pub record IsScreenSize (size : Size) : Type 0 where
   pub most_height : size.h ≤ 4096
   pub most_pixels : size.w * size.h ≤ 4194304
 
+-- the surface of a name is there
+abbrev pub IsThere : Named → Type 0
+IsThere (Screen n) = n < 1
+
 -- the surface that a command reads is there
 abbrev pub IsKnown : ScriptCommand → Type 0
-IsKnown (Dump (Screen n)) = n < 1
+IsKnown (Dump q) = IsThere q
+IsKnown (Sum q) = IsThere q
 IsKnown (Paint o) = Unit {0}
 IsKnown Nothing = Unit {0}
 

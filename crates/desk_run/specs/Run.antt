@@ -4,12 +4,12 @@ use Rattle.std.specs.List.{flat_map}
 use Rattle.desk_io.specs.Sinks.{Puts}
 use Rattle.surf_obj.specs.Surface.{Surface}
 use Rattle.desk_run.specs.declared.command.ScriptCommand.{ScriptCommand}
-use Rattle.desk_run.specs.declared.command.ScriptCommand.TheVariants.{Paint, Dump, Nothing}
+use Rattle.desk_run.specs.declared.command.ScriptCommand.TheVariants.{Paint, Dump, Sum, Nothing}
 use Rattle.desk_run.specs.declared.run.Ended.{Ended}
 use Rattle.desk_run.specs.declared.run.Ended.TheVariants.{Done, WriteFault}
 use Rattle.desk_run.specs.Reports.{Told}
 use Rattle.desk_run.specs.Desk.{State, surface_of, carried, Shows}
-use Rattle.desk_run.specs.Texts.{report_text, dump_text, end_text}
+use Rattle.desk_run.specs.Texts.{report_text, dump_text, sum_text, end_text}
 
 -- a command that was carried out, with its reports
 pub record Entry : Type 0 where
@@ -28,6 +28,7 @@ run (e ∷ es) state = run es (carried e.command e.told state)
 abbrev pub text_of : ℕ → ScriptCommand → List Told → State → List ℕ
 text_of n (Paint o) told state = flat_map (report_text n) told
 text_of n (Dump q) told state = dump_text q (surface_of state q)
+text_of n (Sum q) told state = sum_text q (surface_of state q)
 text_of n Nothing told state = []
 
 -- the lines of these commands, the first being number n

@@ -1,6 +1,6 @@
 -- What is written: lines of bytes.
-use Rattle.std.specs.Prelude.{ℕ, zero, suc, ◌+◌, ◌/◌, ◌%◌, List, [], ◌∷◌, ◌++◌, length, take, drop, codes, decimal, nat_lt, if◌then◌else◌}
-use Rattle.std.specs.List.{flat_map}
+use Rattle.std.specs.Prelude.{ℕ, zero, suc, ◌+◌, ◌*◌, ◌/◌, ◌%◌, ◌^◌, List, [], ◌∷◌, ◌++◌, length, take, drop, codes, decimal, nat_lt, if◌then◌else◌}
+use Rattle.std.specs.List.{flat_map, fold}
 use Rattle.std.specs.Fmt.{signed_decimal}
 use Rattle.geom_base.specs.declared.rect.Rect.{Rect}
 use Rattle.geom_base.specs.declared.size.Size.{Size as SurfaceSize}
@@ -61,6 +61,17 @@ head_text q size format = codes "dump " ++ name_text q ++ codes " " ++ decimal s
 -- the lines of a dump: its head, and a line for each row
 abbrev pub dump_text : Named → Surface → List ℕ
 dump_text q s = head_text q s.size s.format ++ rows_text (digits_of s.format) s.size.w s.size.h s.values
+
+-- the sum of values: from 0 on, for each value 31 times the sum so far and the value, within 64 bits
+abbrev pub sum_of : List ℕ → ℕ
+sum_of values = fold (λ s v. (s * 31 + v) % 2 ^ 64) 0 values
+
+-- the line of a sum, with 16 digits
+abbrev pub sum_line_text : Named → ℕ → List ℕ
+sum_line_text q sum = codes "sum " ++ name_text q ++ codes " " ++ hex_digits 16 sum ++ codes "\n"
+
+abbrev pub sum_text : Named → Surface → List ℕ
+sum_text q s = sum_line_text q (sum_of s.values)
 
 abbrev pub cause_text : Cause → List ℕ
 cause_text fault = codes "fault"

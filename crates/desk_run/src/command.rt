@@ -23,6 +23,8 @@ pub enum ScriptCommand {
     Paint(PaintOrder),
     /// The pixel values of a surface, as text.
     Dump(Named),
+    /// The sum of the pixel values of a surface, as text.
+    Sum(Named),
     /// A command that only changes what later lines mean.
     Nothing,
 }

@@ -10,7 +10,7 @@ use crate::text::{digits, head_line};
 use desk_io::{Sink, WriteFault, write_all};
 
 /// The hexadecimal digit of a number below 16.
-fn digit(n: u32) -> u8
+fn digit(n: u64) -> u8
     requires { n < 16 }
     ensures { result ≡ hex_digit n }
 {
@@ -23,7 +23,7 @@ fn digit(n: u32) -> u8
 
 /// Puts the last digits of a value into a cell, as many as it has places.
 #[tactic(auto, unfolding(crate::specs::Texts::hex_digits))]
-fn put_hex(cell: &mut [u8], value: u32)
+pub fn put_hex(cell: &mut [u8], value: u64)
     ensures { cell.new ≡ hex_digits (length cell.old) value }
 {
     let mut rest = value;
@@ -40,7 +40,7 @@ fn put_row(line: &mut [u8], values: &[u32], digits: usize)
 {
     for i in 0..values.len() {
         let start = digits * i;
-        put_hex(&mut line[start..start + digits], values[i]);
+        put_hex(&mut line[start..start + digits], values[i] as u64);
     }
     line[digits * values.len()] = b'\n';
 }

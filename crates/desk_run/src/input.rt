@@ -99,79 +99,59 @@ mod tests {
     fn commands_are_read_in_order(rt: HostRuntime) -> Result<(), Fail> {
         let alloc = rt.alloc();
         let text = format!(in alloc;
-            "{SCREEN}%%\n# a comment\n  \npaint  screen 1 0 3 2 #FF8000 13 \r\ndump -0"
+            "{SCREEN}%%\n# a comment\n  \nbrush b solid FF8000\npaint  screen 1 0 3 2 b 13 \r\ndump -0\nsum 0"
         )?;
         let input = read_input(alloc, text.as_bytes())?;
         assert_eq!(rt; input.config.size, Size { w: 4, h: 2 });
-        let rect = Rect {
-            left: 1,
-            top: 0,
-            right: 3,
-            bottom: 2,
-        };
-        let colour = Rgb {
-            r: 255,
-            g: 128,
-            b: 0,
-        };
-        let paint = ScriptCommand::Paint(PaintOrder { rect, colour });
+        let paint = ScriptCommand::Paint(PaintOrder {
+            rect: Rect {
+                left: 1,
+                top: 0,
+                right: 3,
+                bottom: 2,
+            },
+            colour: Rgb {
+                r: 255,
+                g: 128,
+                b: 0,
+            },
+        });
         let dump = ScriptCommand::Dump(Named::Screen(0));
-        assert_eq!(rt; input.commands.as_slice(), [paint, dump].as_slice());
+        let sum = ScriptCommand::Sum(Named::Screen(0));
+        let wanted = [ScriptCommand::Nothing, paint, dump, sum];
+        assert_eq!(rt; input.commands.as_slice(), wanted.as_slice());
         Ok(())
     }
 
     #[test]
     fn the_first_refusal_is_named(rt: HostRuntime) -> Result<(), Fail> {
         let alloc = rt.alloc();
-        let other = InputRefusal::Config { number: 0 };
-        let none = InputRefusal::Config { number: 10 };
+        // What stands before and behind the screen, and the refusal: its line, or 0 for the configuration, and its number.
         let cases = [
-            ("", "x%%\n", none),
-            ("", "%%\r", none),
-            ("", "\n%%\n", other),
-            ("# a comment\n", "%%\n", other),
-            (
-                "",
-                "%%\r\n#\ndump 1\ndump x",
-                InputRefusal::Script {
-                    line: 10,
-                    number: 4,
-                },
-            ),
-            (
-                "",
-                "%%\npaint screen 1 0",
-                InputRefusal::Script { line: 9, number: 2 },
-            ),
-            (
-                "",
-                "%%\n\npaint screen 3 0 1 2 #FF0000 13",
-                InputRefusal::Script {
-                    line: 10,
-                    number: 8,
-                },
-            ),
-            ("", "%%\nframe", InputRefusal::Script { line: 9, number: 1 }),
-            (
-                "",
-                "%%\npaint none 0 0 1 1 #FF0000 13",
-                InputRefusal::Script { line: 9, number: 5 },
-            ),
-            (
-                "",
-                "%%\npaint screen 0 0 1 1 #FF000 17",
-                InputRefusal::Script { line: 9, number: 3 },
-            ),
+            ("", "x%%\n", 0, 10),
+            ("", "%%\r", 0, 10),
+            ("", "\n%%\n", 0, 0),
+            ("# a comment\n", "%%\n", 0, 0),
+            ("", "%%\nframe", 9, 1),
+            ("", "%%\nbrush a pattern", 9, 1),
+            ("", "%%\npaint screen 1 0", 9, 2),
+            ("", "%%\npaint screen 0 0 1 1 #FF000 17", 9, 3),
+            ("", "%%\r\n#\ndump 1\ndump x", 10, 4),
+            ("", "%%\npaint none 0 0 1 1 #FF0000 13", 9, 5),
+            ("", "%%\ntable none 000000 G", 9, 6),
+            ("", "%%\nbrush 1 solid G", 9, 7),
+            ("", "%%\n\npaint screen 3 0 1 2 #FF0000 13", 10, 8),
         ];
-        for (front, rest, wanted) in cases {
+        for (front, rest, line, number) in cases {
             let text = format!(in alloc; "{front}{SCREEN}{rest}")?;
             let bytes = text.as_bytes();
             assert!(rt; bytes.len() < 1000);
             let refusal = match read_input(alloc, bytes) {
-                Err(InputError::Refused(refusal)) => Some(refusal),
-                _ => None,
+                Err(InputError::Refused(InputRefusal::Script { line, number })) => (line, number),
+                Err(InputError::Refused(InputRefusal::Config { number })) => (0, number),
+                _ => (u64::MAX, 0),
             };
-            assert_eq!(rt; refusal, Some(wanted), "at {rest}");
+            assert_eq!(rt; refusal, (line, number), "at {rest}");
         }
         Ok(())
     }

@@ -10,6 +10,7 @@ pub mod run;
 pub mod screen;
 mod script;
 pub mod status;
+mod sum;
 #[cfg(test)]
 mod tests;
 mod text;

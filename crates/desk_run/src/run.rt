@@ -10,6 +10,7 @@ ghost use Rattle.desk_run.specs.Run.{Entry, RanOn, text_of};
 use crate::command::ScriptCommand;
 use crate::dump::put_dump;
 use crate::screen::Screen;
+use crate::sum::put_sum;
 use crate::text::end_line;
 use desk_io::{Sink, WriteFault, write_all};
 
@@ -40,6 +41,7 @@ fn carry_out<K: Sink>(
             Ok(())
         }
         ScriptCommand::Dump(name) => put_dump(sink, *name, screen, line),
+        ScriptCommand::Sum(name) => put_sum(sink, *name, screen),
         ScriptCommand::Nothing => Ok(()),
     }
 }

@@ -119,6 +119,13 @@ impl Screen {
         self.format
     }
 
+    /// The values, row by row.
+    pub fn values(&self) -> &[u32]
+        ensures { result.now ≡ self.now.values }
+    {
+        self.values.as_slice()
+    }
+
     /// The values of a row.
     pub fn row(&self, y: u32) -> &[u32]
         requires { y < self.now.size.h }

@@ -69,6 +69,10 @@ fn spaces(alloc: Global, count: usize) -> Result<Vec<u8>, AllocError> {
 fn scripts_and_their_texts(rt: HostRuntime) -> Result<(), Fail> {
     let cases = [
         (FIRST_SCRIPT, FIRST_TEXT),
+        (
+            "brush red solid FF0000\npaint screen 1 0 3 2 red 13\nsum 0\n",
+            "sum 0 0000002fc7b4c800\nend 3\n",
+        ),
         ("dump 0\n", "dump 0 4 2 8\n00000000\n00000000\nend 1\n"),
         ("", "end 0\n"),
         (

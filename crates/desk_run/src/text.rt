@@ -5,6 +5,7 @@ ghost use Rattle.arrayvec.specs.ArrayVec.{array_vec_len};
 ghost use Rattle.desk_run.specs.Texts as spec;
 
 use crate::command::Named;
+use crate::dump::put_hex;
 use crate::status::{InputRefusal, Status};
 use arrayvec::ArrayVec;
 use geom_base::Size;
@@ -96,6 +97,21 @@ pub fn head_line(name: Named, size: Size, format: Format) -> Line
     add_number(&mut line, size.h as u64);
     add(&mut line, b" ");
     add_format(&mut line, format);
+    add(&mut line, b"\n");
+    line
+}
+
+/// The line of a sum.
+pub fn sum_line(name: Named, sum: u64) -> Line
+    ensures { result.items ≡ spec.sum_line_text name sum }
+{
+    let mut digits = [0u8; 16];
+    put_hex(&mut digits, sum);
+    let mut line = Line::new();
+    add(&mut line, b"sum ");
+    add_name(&mut line, name);
+    add(&mut line, b" ");
+    add(&mut line, &digits);
     add(&mut line, b"\n");
     line
 }

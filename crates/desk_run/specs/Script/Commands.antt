@@ -6,7 +6,7 @@ use Rattle.desk_run.specs.declared.command.ScriptCommand.TheVariants as asked
 use Rattle.desk_run.specs.declared.words.fault.Fault.{Fault}
 use Rattle.desk_run.specs.declared.words.fault.Fault.TheVariants.{UnknownCommand, WordCount, NotOrdered, PastLimit, TooManyCommands}
 use Rattle.desk_run.specs.declared.script.verb.Verb.{Verb}
-use Rattle.desk_run.specs.declared.script.verb.Verb.TheVariants.{Back, Brush, Brushorg, Dump, Paint, Table}
+use Rattle.desk_run.specs.declared.script.verb.Verb.TheVariants.{Back, Brush, Brushorg, Dump, Paint, Sum, Table}
 use Rattle.desk_run.specs.Words.Asking.{◌>>=◌, ask, each}
 use Rattle.desk_run.specs.Words.Spelling.{count_in}
 use Rattle.desk_run.specs.Words.Lines.{word_at}
@@ -61,6 +61,12 @@ read_paint names words = do
   colour ← solid_of face
   Ok (asked.Paint (record { rect = rect; colour = colour }))
 
+-- sum X
+unfoldable pub read_sum : List (List ℕ) → Result ScriptCommand Fault
+read_sum words = do
+  surface ← surface_at (word_at words 1)
+  Ok (asked.Sum surface)
+
 -- table NAME C ..
 unfoldable pub read_table : State → List (List ℕ) → Meaning
 read_table s words = do
@@ -89,6 +95,7 @@ count_fits Brush words = form_fits (word_at words 2) (length words)
 count_fits Brushorg words = length words == 3
 count_fits Dump words = length words == 2
 count_fits Paint words = length words == 8
+count_fits Sum words = length words == 2
 count_fits Table words = length words == 4 || length words == 18 || length words == 258
 
 -- what is asked leaves the state as it is
@@ -103,6 +110,7 @@ meaning_of Brush s words = read_brush s words
 meaning_of Brushorg s words = keeping s (read_brushorg words)
 meaning_of Dump s words = keeping s (read_dump words)
 meaning_of Paint s words = keeping s (read_paint s.names words)
+meaning_of Sum s words = keeping s (read_sum words)
 meaning_of Table s words = read_table s words
 
 -- the word of each command
@@ -112,10 +120,11 @@ spelling_of Brush = codes "brush"
 spelling_of Brushorg = codes "brushorg"
 spelling_of Dump = codes "dump"
 spelling_of Paint = codes "paint"
+spelling_of Sum = codes "sum"
 spelling_of Table = codes "table"
 
 abbrev pub all_verbs : List Verb
-all_verbs = Back ∷ Brush ∷ Brushorg ∷ Dump ∷ Paint ∷ Table ∷ []
+all_verbs = Back ∷ Brush ∷ Brushorg ∷ Dump ∷ Paint ∷ Sum ∷ Table ∷ []
 
 -- the command that a word names
 abbrev pub verb_among : List Verb → List ℕ → Result Verb Fault

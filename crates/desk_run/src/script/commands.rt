@@ -3,7 +3,7 @@
 ghost use Rattle.std.specs.Prelude.{◌≡◌, IfOk, map};
 ghost use Rattle.desk_run.specs.Input.{IsKnown};
 ghost use Rattle.desk_run.specs.Script.Names.{names_of};
-ghost use Rattle.desk_run.specs.Script.Commands.{read_back, read_brushorg, read_dump, read_paint};
+ghost use Rattle.desk_run.specs.Script.Commands.{read_back, read_brushorg, read_dump, read_paint, read_sum};
 
 use crate::command::{PaintOrder, ScriptCommand};
 use crate::script::fields::{brush, colour, point, rect, solid, surface, target, well_ordered};
@@ -38,6 +38,16 @@ pub fn dump(words: &[&[u8]]) -> Result<ScriptCommand, Fault>
 {
     let surface = surface(word(words, 1))?;
     Ok(ScriptCommand::Dump(surface))
+}
+
+/// sum X
+#[tactic(auto, unfolding(crate::specs::Script::Commands::read_sum))]
+pub fn sum(words: &[&[u8]]) -> Result<ScriptCommand, Fault>
+    ensures value { result ≡ read_sum (map (λ w. w.now) words.now) }
+    ensures known { IfOk result IsKnown }
+{
+    let surface = surface(word(words, 1))?;
+    Ok(ScriptCommand::Sum(surface))
 }
 
 /// paint TARGET R BRUSH MIX

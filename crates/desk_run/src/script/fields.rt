@@ -1,8 +1,7 @@
 //! One word of a line, where names count.
 
 ghost use Rattle.std.specs.Prelude.{◌≡◌, ◌<◌, ◌^◌, map, IfOk};
-ghost use Rattle.desk_run.specs.Input.{IsKnown};
-ghost use Rattle.desk_run.specs.declared.command.ScriptCommand.TheVariants.{Dump};
+ghost use Rattle.desk_run.specs.Input.{IsThere};
 ghost use Rattle.desk_run.specs.Script.Names.{names_of};
 ghost use Rattle.desk_run.specs.Script.Fields.{rgb_of, colour_at, coordinate_at, rect_at, point_at, is_well_ordered, target_at, brush_at, solid_of, hatch_at, face_at, surface_at};
 
@@ -147,7 +146,7 @@ pub fn face(words: &[&[u8]]) -> Result<Face, Fault>
 /// A screen by its number. A word that begins with a letter is a name.
 pub fn surface(word: &[u8]) -> Result<Named, Fault>
     ensures value { result ≡ surface_at word.now }
-    ensures known { IfOk result (λ n. IsKnown (Dump n)) }
+    ensures there { IfOk result IsThere }
 {
     if word.first().is_some_and(|b| b.is_ascii_alphabetic()) {
         return Err(Fault::UnknownName);

@@ -3,7 +3,7 @@
 ghost use Rattle.std.specs.Prelude.{ℕ, ◌≡◌, ◌<◌, ◌≤◌, IfOk, IfSome, length, map};
 
 use crate::command::ScriptCommand;
-use crate::script::commands::{back, brushorg, dump, paint};
+use crate::script::commands::{back, brushorg, dump, paint, sum};
 use crate::script::fields::face;
 use crate::script::kinds::Entry;
 use crate::script::names::Names;
@@ -170,6 +170,7 @@ impl<'a> Reader<'a> {
             Verb::Brushorg => Ok(brushorg(words)?),
             Verb::Dump => Ok(dump(words)?),
             Verb::Paint => Ok(paint(&self.names, words)?),
+            Verb::Sum => Ok(sum(words)?),
             Verb::Table => self.table(alloc, words),
         }
     }

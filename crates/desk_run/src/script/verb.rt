@@ -13,16 +13,18 @@ pub enum Verb {
     Brushorg,
     Dump,
     Paint,
+    Sum,
     Table,
 }
 
 /// All commands.
-const VERBS: [Verb; 6] = [
+const VERBS: [Verb; 7] = [
     Verb::Back,
     Verb::Brush,
     Verb::Brushorg,
     Verb::Dump,
     Verb::Paint,
+    Verb::Sum,
     Verb::Table,
 ];
 
@@ -36,6 +38,7 @@ fn spelling(verb: Verb) -> &'static [u8]
         Verb::Brushorg => b"brushorg",
         Verb::Dump => b"dump",
         Verb::Paint => b"paint",
+        Verb::Sum => b"sum",
         Verb::Table => b"table",
     }
 }
@@ -86,6 +89,7 @@ pub fn fits_count(verb: Verb, words: &[&[u8]]) -> bool
         Verb::Brushorg => count == 3,
         Verb::Dump => count == 2,
         Verb::Paint => count == 8,
+        Verb::Sum => count == 2,
         Verb::Table => count == 4 || count == 18 || count == 258,
     }
 }
