@@ -122,13 +122,16 @@ mod tests {
 
     #[test]
     fn refuses_one_byte_too_many(rt: HostRuntime) -> Result<(), Fail> {
-        for (count, fits) in [(16_777_216, true), (16_777_217, false), (16_800_000, false)] {
+        let cases = [
+            (16_777_216, Ok(16_777_216)),
+            (16_777_217, Err(ReadRefusal::Size)),
+            (16_800_000, Err(ReadRefusal::Size)),
+        ];
+        for (count, want) in cases {
             let bytes = zeros(rt.alloc(), count)?;
             let mut source = MemSource::new(rt.alloc(), bytes, count, Vec::new(rt.alloc()));
-            match read_all(rt.alloc(), &mut source) {
-                Ok(read) => assert!(rt; fits && read.len() == count, "at {count}"),
-                Err(refusal) => assert!(rt; !fits && refusal == ReadRefusal::Size, "at {count}"),
-            }
+            let read = read_all(rt.alloc(), &mut source).map(|bytes| bytes.len());
+            assert_eq!(rt; read, want, "of {count}");
         }
         Ok(())
     }
