@@ -6,6 +6,7 @@ use Rattle.pix_format.specs.declared.format.Format.{Format}
 use Rattle.pix_format.specs.declared.format.Format.TheVariants.{B1, B4}
 use Rattle.pix_format.specs.Value.{colours_of}
 
+-- a colour with all channels at one level
 abbrev pub grey : ℕ → Rgb
 grey level = record { r = level; g = level; b = level }
 

@@ -1,4 +1,4 @@
-//! Values worked out elsewhere.
+//! Values, colours and translations that were worked out by hand or by an independent model.
 
 ghost use Rattle.std.specs.Prelude.{◌<◌, ◌^◌};
 ghost use Rattle.pix_format.specs.Value.{bits_of};

@@ -21,9 +21,7 @@ pub fn value_of(format: Format, table: &ColourTable, colour: Rgb) -> u32
     ensures fits { result < 2 ^ bits_of format }
 {
     match format {
-        Format::B1 => nearest(table.colours(), colour) as u32,
-        Format::B4 => nearest(table.colours(), colour) as u32,
-        Format::B8 => nearest(table.colours(), colour) as u32,
+        Format::B1 | Format::B4 | Format::B8 => nearest(table.colours(), colour) as u32,
         Format::B555 => packed555(colour),
         Format::B565 => packed565(colour),
         Format::B24 | Format::B32 => packed888(colour),
