@@ -8,6 +8,7 @@ ghost use Rattle.surf_obj.specs.Refusals.{Refuses};
 ghost use Rattle.surf_obj.specs.Runs.{box_of, run_of, listed, solid};
 ghost use Rattle.surf_obj.specs.Surface.{value_at, value_of_point, place_of, whole, redrawn};
 
+use crate::fills::fill_values;
 use crate::layout::{bits_of, coordinate, row_start, whole_part};
 use crate::pixels::put_value;
 use crate::refusal::{SurfRefusal, refusal_of};
@@ -252,5 +253,62 @@ impl LentSurf<'_> {
         ensures only { OnlyPixels self.old self.new }
     {
         self.write_run(coordinate(at.x), coordinate(at.y), values);
+    }
+
+    /// Writes one value to so many pixels from a column of a row on.
+    pub fn fill_run(&mut self, x: u32, y: u32, len: usize, value: u32)
+        requires columns { x + len ≤ (size_of self.old).w }
+        requires row { y < (size_of self.old).h }
+        requires value { value < 2 ^ bits_of (format_of self.old) }
+        ensures values { values_of self.new ≡ redrawn (size_of self.old) (values_of self.old) (λ p. is_in p (box_of x y (x + len) (y + 1))) (solid value) }
+        ensures only { OnlyPixels self.old self.new }
+    {
+        let (from, to) = whole_part(self.format, x, len);
+        self.fill_each(x, y, 0, from, value);
+        self.fill_whole(x, y, from, to, value);
+        self.fill_each(x, y, to, len, value);
+    }
+
+    /// Writes one value to a part of a run pixel by pixel.
+    fn fill_each(&mut self, x: u32, y: u32, from: usize, to: usize, value: u32)
+        requires order { from ≤ to }
+        requires columns { x + to ≤ (size_of self.old).w }
+        requires row { y < (size_of self.old).h }
+        requires value { value < 2 ^ bits_of (format_of self.old) }
+        ensures values { values_of self.new ≡ redrawn (size_of self.old) (values_of self.old) (λ p. is_in p (box_of (x + from) y (x + to) (y + 1))) (solid value) }
+        ensures only { OnlyPixels self.old self.new }
+    {
+        for i in from..to {
+            self.set_pixel(x + i as u32, y, value);
+        }
+    }
+
+    /// Writes one value to the part of a run that is whole bytes.
+    fn fill_whole(&mut self, x: u32, y: u32, from: usize, to: usize, value: u32)
+        requires order { from ≤ to }
+        requires columns { x + to ≤ (size_of self.old).w }
+        requires row { y < (size_of self.old).h }
+        requires value { value < 2 ^ bits_of (format_of self.old) }
+        requires start { from < to → (x + from) * bits_of (format_of self.old) % 8 ≡ 0 }
+        requires count { (to - from) * bits_of (format_of self.old) % 8 ≡ 0 }
+        ensures values { values_of self.new ≡ redrawn (size_of self.old) (values_of self.old) (λ p. is_in p (box_of (x + from) y (x + to) (y + 1))) (solid value) }
+        ensures only { OnlyPixels self.old self.new }
+    {
+        if from == to {
+            return;
+        }
+        let first = (x as usize + from) * bits_of(self.format) as usize / 8;
+        let at = self.row_start(y) + first;
+        fill_values(self.bits, at, self.format, to - from, value);
+    }
+
+    /// Writes one value to so many pixels from a point on.
+    pub fn fill_row(&mut self, at: Point, len: usize, value: u32)
+        requires inside { LiesIn (run_of at len) (size_of self.old) }
+        requires value { value < 2 ^ bits_of (format_of self.old) }
+        ensures values { values_of self.new ≡ redrawn (size_of self.old) (values_of self.old) (λ p. is_in p (run_of at len)) (solid value) }
+        ensures only { OnlyPixels self.old self.new }
+    {
+        self.fill_run(coordinate(at.x), coordinate(at.y), len, value);
     }
 }
