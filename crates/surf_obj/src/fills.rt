@@ -6,9 +6,8 @@ ghost use Rattle.pix_format.specs.declared.Format.TheVariants.{B1, B4, B555, B24
 ghost use Rattle.surf_obj.specs.Layout.{row_bytes, pixel_in};
 ghost use Rattle.surf_obj.specs.Bytes.{ChangesOnly};
 
-use pix_format::Format;
-
 use crate::words::{put16, put24, put32};
+use pix_format::Format;
 
 /// Writes one value to pixels.
 pub fn fill_values(bits: &mut [u8], at: usize, format: Format, count: usize, value: u32)

@@ -3,7 +3,7 @@
 ghost use Rattle.std.specs.Prelude.{◌≡◌, ◌≤◌, ◌<◌, ◌+◌, ◌-◌, ◌*◌, ◌%◌, ◌^◌, ◌+ℤ◌, pos, length, slice_set, slice_index, EachIndex, All, IfOk, IfErr, unsigned_abs};
 ghost use Rattle.geom_base.specs.Points.{is_in, IsIn, LiesIn};
 ghost use Rattle.pix_format.specs.Value.{bits_of};
-ghost use Rattle.surf_obj.specs.Layout.{row_bytes, row_start, delta_of, HasSides};
+ghost use Rattle.surf_obj.specs.Layout.{layout_from, row_bytes, row_start, delta_of, HasSides};
 ghost use Rattle.surf_obj.specs.Refusals.{Refuses};
 ghost use Rattle.surf_obj.specs.Runs.{box_of, run_of, listed, solid};
 ghost use Rattle.surf_obj.specs.Surface.{value_at, value_of_point, place_of, whole, redrawn};
@@ -46,7 +46,7 @@ impl<'a> LentSurf<'a> {
         requires sides { HasSides size }
         ensures loan { result.bits.ghost_name ≡ bits.entry.ghost_name }
         ensures bits { bytes_of result ≡ bits.old }
-        ensures layout { layout_of result ≡ record { size = size; format = format; stride = stride; bottom_up = bottom_up } }
+        ensures layout { layout_of result ≡ layout_from size format stride bottom_up }
     {
         LentSurf {
             bits,
@@ -66,7 +66,7 @@ impl<'a> LentSurf<'a> {
         bottom_up: bool,
     ) -> Result<LentSurf<'a>, SurfRefusal>
         requires { HasSides size }
-        ensures ok { IfOk result (LentOver bits.entry (record { size = size; format = format; stride = stride; bottom_up = bottom_up })) }
+        ensures ok { IfOk result (LentOver bits.entry (layout_from size format stride bottom_up)) }
         ensures err { IfErr result (Refuses size format stride (length bits.old)) }
     {
         match refusal_of(bits.len(), size, format, stride) {

@@ -3,7 +3,7 @@
 ghost use Rattle.std.specs.Prelude.{◌≡◌, ◌≤◌, ◌<◌, ◌⊎◌, ◌+◌, ◌*◌, ◌-◌, ◌%◌, ◌^◌, ◌+ℤ◌, pos, ℕ, length, slice_index, EachIndex, All, IfOk, IfErr};
 ghost use Rattle.geom_base.specs.Points.{IsIn, LiesIn};
 ghost use Rattle.pix_format.specs.Value.{bits_of};
-ghost use Rattle.surf_obj.specs.Layout.{row_bytes, row_start, delta_of, HasSides};
+ghost use Rattle.surf_obj.specs.Layout.{layout_from, row_bytes, row_start, delta_of, HasSides};
 ghost use Rattle.surf_obj.specs.Runs.{run_of};
 ghost use Rattle.surf_obj.specs.Surface.{value_at, value_of_point, whole};
 ghost use Rattle.surf_obj.specs.Refusals.{Refuses};
@@ -43,7 +43,7 @@ impl<'a> LentView<'a> {
         requires columns { row_bytes format size.w ≤ stride }
         requires sides { HasSides size }
         ensures bits { view_bytes result ≡ bits.now }
-        ensures layout { view_layout result ≡ record { size = size; format = format; stride = stride; bottom_up = bottom_up } }
+        ensures layout { view_layout result ≡ layout_from size format stride bottom_up }
     {
         LentView {
             bits,
@@ -63,7 +63,7 @@ impl<'a> LentView<'a> {
         bottom_up: bool,
     ) -> Result<LentView<'a>, SurfRefusal>
         requires { HasSides size }
-        ensures ok { IfOk result (ViewOver bits.now (record { size = size; format = format; stride = stride; bottom_up = bottom_up })) }
+        ensures ok { IfOk result (ViewOver bits.now (layout_from size format stride bottom_up)) }
         ensures err { IfErr result (Refuses size format stride (length bits.now)) }
     {
         match refusal_of(bits.len(), size, format, stride) {
