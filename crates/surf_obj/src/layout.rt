@@ -39,6 +39,18 @@ pub fn row_start(size: Size, stride: u32, bottom_up: bool, y: u32) -> usize
     row as usize * stride as usize
 }
 
+/// The bytes of some rows: the first one, and the one past the last.
+pub fn rows_range(size: Size, stride: u32, bottom_up: bool, top: u32, rows: u32) -> (usize, usize)
+    requires { top + rows ≤ size.h }
+    ensures from { result.0 ≡ (if bottom_up then size.h - top - rows else top) * stride }
+    ensures to { result.1 ≡ result.0 + rows * stride }
+    ensures within { result.1 ≤ size.h * stride }
+{
+    let first = if bottom_up { size.h - top - rows } else { top };
+    let from = first as usize * stride as usize;
+    (from, from + rows as usize * stride as usize)
+}
+
 /// A coordinate that is not negative.
 pub fn coordinate(at: i32) -> u32
     requires { pos 0 ≤ℤ at }

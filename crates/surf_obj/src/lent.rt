@@ -1,6 +1,6 @@
 //! A surface on bits that were lent to be drawn on.
 
-ghost use Rattle.std.specs.Prelude.{◌≡◌, ◌≤◌, ◌<◌, ◌+◌, ◌-◌, ◌*◌, ◌%◌, ◌^◌, ◌+ℤ◌, pos, length, slice_set, slice_index, EachIndex, All, IfOk, IfErr, unsigned_abs};
+ghost use Rattle.std.specs.Prelude.{◌≡◌, ◌≤◌, ◌<◌, ◌+◌, ◌-◌, ◌*◌, ◌%◌, ◌^◌, ◌+ℤ◌, pos, length, slice_set, slice_index, slice_range, EachIndex, All, IfOk, IfErr, unsigned_abs};
 ghost use Rattle.geom_base.specs.Points.{is_in, IsIn, LiesIn};
 ghost use Rattle.pix_format.specs.Value.{bits_of};
 ghost use Rattle.surf_obj.specs.Layout.{layout_from, row_bytes, row_start, delta_of, HasSides};
@@ -9,7 +9,7 @@ ghost use Rattle.surf_obj.specs.Runs.{box_of, run_of, listed, solid};
 ghost use Rattle.surf_obj.specs.Surface.{value_at, value_of_point, place_of, whole, redrawn};
 
 use crate::fills::fill_values;
-use crate::layout::{bits_of, coordinate, row_start, whole_part};
+use crate::layout::{bits_of, coordinate, row_start, rows_range, whole_part};
 use crate::pixels::put_value;
 use crate::refusal::{SurfRefusal, refusal_of};
 use crate::rows::write_values;
@@ -31,7 +31,7 @@ pub struct LentSurf<'a> {
 }
 
 impl<'a> LentSurf<'a> {
-    ghost use Rattle.surf_obj.specs.Lent.{bytes_of, layout_of, LentOver};
+    ghost use Rattle.surf_obj.specs.Lent.{bytes_of, values_of, size_of, format_of, layout_of, LentOver};
 
     /// A surface on bits that are known to hold it.
     pub fn on(
@@ -78,6 +78,32 @@ impl<'a> LentSurf<'a> {
                 stride,
                 bottom_up,
             }),
+        }
+    }
+
+    /// So many of its rows, as a surface on their part of the same bits.
+    pub fn into_rows(self, top: u32, rows: u32) -> LentSurf<'a>
+        requires some { 1 ≤ rows }
+        requires inside { top + rows ≤ (size_of self).h }
+        ensures size { size_of result ≡ record { w = (size_of self.entry).w; h = rows } }
+        ensures format { format_of result ≡ format_of self.entry }
+        ensures delta { delta_of (layout_of result) ≡ delta_of (layout_of self.entry) }
+        ensures values { values_of result ≡ slice_range (values_of self.entry) (top * (size_of self.entry).w) ((top + rows) * (size_of self.entry).w) }
+    {
+        let LentSurf {
+            bits,
+            size,
+            format,
+            stride,
+            bottom_up,
+        } = self;
+        let (from, to) = rows_range(size, stride, bottom_up, top, rows);
+        LentSurf {
+            bits: &mut bits[from..to],
+            size: Size { w: size.w, h: rows },
+            format,
+            stride,
+            bottom_up,
         }
     }
 }
