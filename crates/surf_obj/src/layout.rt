@@ -59,12 +59,15 @@ pub fn coordinate(at: i32) -> u32
     at as u32
 }
 
-/// The part of a run of pixels that is whole bytes: the first of its pixels, and the one past the last.
+/// The part of a run of pixels that is whole bytes: the first of its pixels, and the one past the last. What it leaves on each
+/// side is less than a byte.
 pub fn whole_part(format: Format, x: u32, len: usize) -> (usize, usize)
     ensures order { result.0 ≤ result.1 }
     ensures within { result.1 ≤ len }
     ensures start { result.0 < result.1 → (x + result.0) * bits_of format % 8 ≡ 0 }
     ensures count { (result.1 - result.0) * bits_of format % 8 ≡ 0 }
+    ensures left { result.0 * bits_of format < 8 }
+    ensures right { (len - result.1) * bits_of format < 8 }
 {
     match format {
         Format::B1 => whole_eights(x, len),
@@ -78,6 +81,8 @@ fn whole_eights(x: u32, len: usize) -> (usize, usize)
     ensures within { result.1 ≤ len }
     ensures start { result.0 < result.1 → (x + result.0) % 8 ≡ 0 }
     ensures count { (result.1 - result.0) % 8 ≡ 0 }
+    ensures left { result.0 < 8 }
+    ensures right { len - result.1 < 8 }
 {
     let from = ((8 - x as usize % 8) % 8).min(len);
     (from, from + (len - from) / 8 * 8)
@@ -88,6 +93,8 @@ fn whole_pairs(x: u32, len: usize) -> (usize, usize)
     ensures within { result.1 ≤ len }
     ensures start { result.0 < result.1 → (x + result.0) % 2 ≡ 0 }
     ensures count { (result.1 - result.0) % 2 ≡ 0 }
+    ensures left { result.0 < 2 }
+    ensures right { len - result.1 < 2 }
 {
     let from = (x as usize % 2).min(len);
     (from, from + (len - from) / 2 * 2)

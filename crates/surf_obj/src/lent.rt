@@ -3,7 +3,7 @@
 ghost use Rattle.std.specs.Prelude.{◌≡◌, ◌≤◌, ◌<◌, ◌+◌, ◌-◌, ◌*◌, ◌%◌, ◌^◌, ◌+ℤ◌, pos, length, slice_set, slice_index, slice_range, EachIndex, All, IfOk, IfErr, unsigned_abs};
 ghost use Rattle.geom_base.specs.Points.{is_in, IsIn, LiesIn};
 ghost use Rattle.pix_format.specs.Value.{bits_of};
-ghost use Rattle.surf_obj.specs.Layout.{layout_from, row_bytes, row_start, delta_of, HasSides};
+ghost use Rattle.surf_obj.specs.Layout.{layout_from, row_bytes, row_start, rows_start, delta_of, HasSides};
 ghost use Rattle.surf_obj.specs.Refusals.{Refuses};
 ghost use Rattle.surf_obj.specs.Runs.{box_of, run_of, listed, solid};
 ghost use Rattle.surf_obj.specs.Surface.{value_at, value_of_point, place_of, whole, redrawn};
@@ -85,9 +85,8 @@ impl<'a> LentSurf<'a> {
     pub fn into_rows(self, top: u32, rows: u32) -> LentSurf<'a>
         requires some { 1 ≤ rows }
         requires inside { top + rows ≤ (size_of self).h }
-        ensures size { size_of result ≡ record { w = (size_of self.entry).w; h = rows } }
-        ensures format { format_of result ≡ format_of self.entry }
-        ensures delta { delta_of (layout_of result) ≡ delta_of (layout_of self.entry) }
+        ensures layout { layout_of result ≡ layout_from (record { w = (size_of self.entry).w; h = rows }) (format_of self.entry) (layout_of self.entry).stride (layout_of self.entry).bottom_up }
+        ensures bits { let from = rows_start (layout_of self.entry) top rows in bytes_of result ≡ slice_range (bytes_of self.entry) from (from + rows * (layout_of self.entry).stride) }
         ensures values { values_of result ≡ slice_range (values_of self.entry) (top * (size_of self.entry).w) ((top + rows) * (size_of self.entry).w) }
     {
         let LentSurf {

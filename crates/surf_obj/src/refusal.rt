@@ -1,7 +1,7 @@
 //! Why bytes cannot be a surface.
 
 ghost use Rattle.std.specs.Prelude.{IfSome, IfNone};
-ghost use Rattle.surf_obj.specs.Layout.{HasSides, Fits};
+ghost use Rattle.surf_obj.specs.Layout.{HasSides, HoldsRows};
 ghost use Rattle.surf_obj.specs.Refusals.{Refuses};
 
 use crate::layout::row_bytes;
@@ -20,7 +20,7 @@ pub enum SurfRefusal {
 pub fn refusal_of(len: usize, size: Size, format: Format, stride: u32) -> Option<SurfRefusal>
     requires { HasSides size }
     ensures some { IfSome result (Refuses size format stride len) }
-    ensures none { IfNone result (Fits size format stride len) }
+    ensures none { IfNone result (HoldsRows size format stride len) }
 {
     let least = row_bytes(format, size.w);
     if stride < least {
