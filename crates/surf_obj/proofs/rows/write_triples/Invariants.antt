@@ -1,0 +1,11 @@
+use Rattle.std.proofs.Common.{◌≡◌, ◌*◌, ◌+◌, ◌<◌, ℕ, get_or}
+use Rattle.pix_format.specs.declared.format.Format.TheVariants.{B24}
+use Rattle.surf_obj.specs.Layout.{pixel_in}
+use Rattle.surf_obj.specs.Bytes.{ChangesOnly}
+use Rattle.surf_obj.proofs.rows.write_triples.Given as goal
+
+abbrev pub invariant-loop-i : goal.invariant-loop-i
+invariant-loop-i l = record {
+  values : (k : ℕ) → k < l.i → pixel_in B24 l.bits l.at k ≡ get_or l.values k 0;
+  bytes : ChangesOnly l.at (l.at + 3 * l.i) l.fn.bits l.bits;
+}

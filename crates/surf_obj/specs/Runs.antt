@@ -1,0 +1,20 @@
+-- Runs of pixels in one row.
+use Rattle.std.specs.Prelude.{ℕ, pos, ◌-◌, ◌+ℤ◌, List, Option, Some, slice_index, unsigned_abs}
+use Rattle.geom_base.specs.declared.point.Point.{Point}
+use Rattle.geom_base.specs.declared.rect.Rect.{Rect}
+
+-- the columns from left to before right, of the rows from top to before bottom
+abbrev pub box_of : ℕ → ℕ → ℕ → ℕ → Rect
+box_of left top right bottom = record { left = pos left; top = pos top; right = pos right; bottom = pos bottom }
+
+-- so many pixels of a row, from a point on
+abbrev pub run_of : Point → ℕ → Rect
+run_of at len = record { left = at.x; top = at.y; right = at.x +ℤ pos len; bottom = at.y +ℤ pos 1 }
+
+-- the change to the values of a list, whose first one stands at a column
+abbrev pub listed : List ℕ → ℕ → Point → ℕ → Option ℕ
+listed values left p d = Some (slice_index values (unsigned_abs p.x - left))
+
+-- the change to one value
+abbrev pub solid : ℕ → Point → ℕ → Option ℕ
+solid value p d = Some value
