@@ -19,8 +19,8 @@ BUILT = {"paint", "dump", "sum", "table", "brush", "brushorg", "back"}
 HATCHES = ["horizontal", "vertical", "fdiagonal", "bdiagonal", "cross", "diagcross"]
 SIDE = rb"([1-9][0-9]{0,3})"
 CONFIG = re.compile(
-    rb'\[\[screen\]\]\r?\nkind = "linear"\r?\nx = 0\r?\ny = 0\r?\nwidth = ' + SIDE
-    + rb"\r?\nheight = " + SIDE + rb'\r?\nformat = "8"\r?\n')
+    rb'\[\[screen\]\]\nkind = "linear"\nx = 0\ny = 0\nwidth = ' + SIDE
+    + rb"\nheight = " + SIDE + rb'\nformat = "8"')
 JUNK = ["", "-", "x", "#", "#12345", "#1234567", "#GG0000", "0", "-1", "-0", "007", "99999", "1234567890",
         "screen", "none", "a1", "_a", "a" * 33, "a" * 32, "zz", "GG", "solid", "hatch", "pattern", "32767",
         "32768", "-32768", "-32769", "65", "16", "17", "13", "013", "\u00e9", "\t", "%%", "#000000", "1e3", "+1"]
@@ -128,24 +128,32 @@ def one_input(chance):
     return data
 
 
-def unbuilt_line(data, end):
-    """The number of the first line before line `end` of a form that isn't built yet, or None."""
-    lines = [line.removesuffix(b"\r") for line in data.split(b"\n")]
-    start = lines.index(b"%%") + 1
+def lines_of(data):
+    """The lines; a CR before an LF is dropped."""
+    lines = data.split(b"\n")
+    return [line.removesuffix(b"\r") for line in lines[:-1]] + lines[-1:]
+
+
+def is_unbuilt(words, hatched):
+    """Whether a line is of a form that isn't built yet; at once by its words, or after all else was asked of it."""
+    if words[0].decode(errors="replace") not in BUILT or words[0] == b"brush" and words[2:3] == [b"pattern"]:
+        return True, True
+    return words[0] == b"paint" and len(words) == 8 and (words[7].lstrip(b"0") != b"13" or words[6] in hatched), False
+
+
+def unbuilt_line(lines, start, end):
+    """The number of the first line of a form that isn't built yet, where no line before it is refused: `end` is the
+    number of the first refused line, or one past the last."""
     hatched = set()
-    for number, line in enumerate(lines[start:end - 1], start + 1):
+    for number, line in enumerate(lines[start:end], start + 1):
         words = [word for word in line.split(b" ") if word]
         if not words or line.startswith(b"#"):
             continue
-        if words[0].decode(errors="replace") not in BUILT:
+        unbuilt, at_once = is_unbuilt(words, hatched)
+        if unbuilt and (at_once or number < end):
             return number
-        if words[0] == b"brush":
-            if words[2] == b"pattern":
-                return number
-            if words[2] == b"hatch":
-                hatched.add(words[1])
-        if words[0] == b"paint" and (int(words[7]) != 13 or words[6] in hatched):
-            return number
+        if words[0] == b"brush" and words[2:3] == [b"hatch"]:
+            hatched.add(words[1])
     return None
 
 
@@ -154,13 +162,14 @@ def wanted(answer, data):
     text, status = answer(["run"], data)
     if text == b"refused config 10\n":
         return text, status
-    before = data.split(b"%%\n", 1)[0] if data.startswith(b"[[screen]]") else b""
-    match = CONFIG.fullmatch(before if b"%%\n" in data else data[:data.find(b"%%\r\n")])
+    lines = lines_of(data)
+    start = lines.index(b"%%") + 1
+    match = CONFIG.fullmatch(b"\n".join(lines[:start - 1]))
     if not match or max(map(int, match.groups())) > 4096 or int(match[1]) * int(match[2]) > 4194304:
         return b"refused config 0\n", 2
     refused = re.fullmatch(rb"refused script (\d+) (\d+)\n", text)
-    end = int(refused[1]) if refused else data.count(b"\n") + 2
-    line = unbuilt_line(data, end)
+    end = int(refused[1]) if refused else len(lines) + 1
+    line = unbuilt_line(lines, start, end)
     return (b"refused script %d 1\n" % line, 2) if line else (text, status)
 
 

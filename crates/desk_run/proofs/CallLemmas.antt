@@ -1,7 +1,6 @@
-use Rattle.std.proofs.Common.{◌≡◌, ℕ, ◌+◌, ◌<◌, Bool, true, false, List, [], length, Option, Some, None, Result, Ok, Err, refl, sym, ap, ◌∙◌, inl, inr, ◌⊎◌}
+use Rattle.std.proofs.Common.{◌≡◌, ℕ, ◌<◌, true, false, List, length, Option, Some, None, Result, Ok, Err, refl, ap, ◌∙◌, inl, inr}
 use Rattle.std.specs.Option.{is_some}
 use Rattle.desk_io.specs.Counts.{Rose}
-use Rattle.desk_io.specs.Sinks.{Puts}
 use Rattle.desk_io.specs.Sources.{most_bytes}
 use Rattle.surf_obj.specs.Surface.{Surface}
 use Rattle.desk_run.specs.declared.run.Ended.{Ended}
@@ -14,7 +13,7 @@ use Rattle.desk_run.specs.declared.status.Status.TheVariants.{Done, Usage, Input
 use Rattle.desk_run.specs.Desk.{Shows, first_state}
 use Rattle.desk_run.specs.Input.{Checked, checked}
 use Rattle.desk_run.specs.Run.{Entry, RanOn, WroteAs}
-use Rattle.desk_run.specs.Answers.{Call, Form, run, input_of, due_by, Says, Ends, Answered, HasCause, Reads, NoRise}
+use Rattle.desk_run.specs.Answers.{Call, Form, run, input_of, Says, Ends, Answered, HasCause, Reads}
 
 abbrev pub status_of : Ended → Status
 status_of ended.Done = Done

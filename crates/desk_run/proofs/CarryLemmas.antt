@@ -1,4 +1,4 @@
-use Rattle.std.proofs.Common.{◌≡◌, ℕ, ◌<◌, zero, suc, Bool, false, List, [], Option, Some, refl, sym, ap, ◌∙◌, arith}
+use Rattle.std.proofs.Common.{◌≡◌, ℕ, zero, suc, Bool, false, List, [], Option, Some, refl, sym, ap, arith}
 use Rattle.desk_io.specs.Sinks.{Puts, puts_nothing}
 use Rattle.surf_obj.specs.Surface.{Surface}
 use Rattle.surf_obj.specs.Steps.{redrawn_nowhere}

@@ -1,4 +1,4 @@
-use Rattle.std.proofs.Common.{◌≡◌, ℕ, Bool, true, false, List, ◌++◌, Option, refl, sym, ap, ◌∙◌}
+use Rattle.std.proofs.Common.{◌≡◌, ℕ, Bool, true, false, List, Option, refl, sym, ap, ◌∙◌}
 use Rattle.geom_base.specs.declared.size.Size.{Size}
 use Rattle.pix_format.specs.declared.format.Format.{Format}
 use Rattle.desk_io.specs.Sinks.{Puts, puts_on, puts_stopped}

@@ -1,6 +1,5 @@
-use Rattle.std.proofs.Common.{◌≡◌, ◌≢◌, ℕ, ◌+◌, ◌-◌, ◌*◌, ◌<◌, ◌≤◌, ◌&&◌, ◌||◌, ◌⊎◌, inl, inr, true, false, cond, Bool, Some, List, length, take, drop, replicate, get_or, arith, rules, suc, refl, add-one, sym, ap, ◌∙◌, pos, int_le, leb as nat_le}
+use Rattle.std.proofs.Common.{◌≡◌, ℕ, ◌+◌, ◌-◌, ◌*◌, ◌<◌, ◌≤◌, ◌&&◌, ◌||◌, ◌⊎◌, inl, inr, true, false, cond, Bool, Some, List, length, take, drop, replicate, get_or, arith, rules, suc, refl, sym, ap, ◌∙◌, pos, int_le, leb as nat_le}
 use Rattle.std.proofs.lemmas.Bool.Decides.{nat_tests}
-use Rattle.std.proofs.lemmas.Nat.{mul-add-lt}
 use Rattle.std.proofs.lemmas.List.{places, get_or-replicate, length-take, length-append, length-drop, length-replicate}
 use Rattle.std.proofs.Math.Nat.{mul-le-mul_right, mul_comm}
 use borrow.Rule.Slice.PartMut.{put_mid}

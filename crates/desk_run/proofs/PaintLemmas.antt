@@ -1,4 +1,4 @@
-use Rattle.std.proofs.Common.{◌≡◌, ℕ, ◌*◌, ◌<◌, List, length, Some, refl, sym, ap, ◌∙◌}
+use Rattle.std.proofs.Common.{◌≡◌, ℕ, ◌*◌, ◌<◌, List, length, Some, sym, ap, ◌∙◌}
 use Rattle.geom_base.specs.declared.rect.Rect.{Rect}
 use Rattle.geom_base.specs.Points.{is_in, box_of}
 use Rattle.pix_format.specs.declared.rgb.Rgb.{Rgb}

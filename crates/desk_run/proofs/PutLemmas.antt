@@ -1,4 +1,4 @@
-use Rattle.std.proofs.Common.{◌≡◌, ℕ, true, false, List, [], ◌++◌, Option, refl, sym, ap, ◌∙◌, append_assoc, append-nil}
+use Rattle.std.proofs.Common.{◌≡◌, ℕ, true, false, List, [], ◌++◌, Option, refl, sym, ◌∙◌, append_assoc, append-nil}
 use Rattle.desk_io.specs.Sinks.{Puts, puts_nothing, puts_on, puts_stopped, puts_as}
 
 -- a front of a text was written, and a rest is left

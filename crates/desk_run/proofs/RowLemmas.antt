@@ -1,4 +1,4 @@
-use Rattle.std.proofs.Common.{◌≡◌, ℕ, zero, suc, ◌+◌, ◌-◌, ◌*◌, ◌<◌, ◌≤◌, List, [], ◌++◌, take, drop, arith, refl, sym, ap, ◌∙◌, Option, Bool, true, false}
+use Rattle.std.proofs.Common.{◌≡◌, ℕ, suc, ◌+◌, ◌-◌, ◌*◌, ◌<◌, ◌≤◌, List, [], ◌++◌, take, drop, arith, refl, sym, ap, ◌∙◌, Option, Bool, true, false}
 use Rattle.std.proofs.lemmas.List.{drop-drop}
 use Rattle.desk_io.specs.Sinks.{Puts}
 use Rattle.desk_run.specs.Texts.{row_text, rows_text}

@@ -3,7 +3,6 @@ use Rattle.std.specs.Prelude.{All, IfSome}
 use Rattle.std.specs.Option.{option_to_list}
 use Rattle.std.proofs.lemmas.List.Elements.{All-push}
 use Rattle.desk_run.specs.Input.{IsKnown}
-use Rattle.desk_run.specs.declared.config.DeskConfig.{DeskConfig}
 use Rattle.desk_run.specs.declared.command.ScriptCommand.{ScriptCommand}
 use Rattle.desk_run.specs.declared.words.fault.Fault.{Fault}
 use Rattle.desk_run.specs.declared.words.fault.ReadError.{ReadError}

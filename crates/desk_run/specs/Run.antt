@@ -1,5 +1,5 @@
 -- A run: commands one after the other, and what is written of them.
-use Rattle.std.specs.Prelude.{◌≡◌, ℕ, ◌+◌, Bool, true, false, List, [], ◌∷◌, ◌++◌, length, map, take, Option, ◌⊎◌, All}
+use Rattle.std.specs.Prelude.{◌≡◌, ℕ, ◌+◌, true, false, List, [], ◌∷◌, ◌++◌, length, map, take, Option, ◌⊎◌, All}
 use Rattle.std.specs.List.{flat_map}
 use Rattle.desk_io.specs.Sinks.{Puts}
 use Rattle.surf_obj.specs.Surface.{Surface}

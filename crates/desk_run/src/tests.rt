@@ -118,9 +118,8 @@ fn faults_of_streams(rt: HostRuntime) -> Result<(), Fail> {
 fn each_write_fails_in_turn(rt: HostRuntime) -> Result<(), Fail> {
     // How many bytes are written before write 1, 2 and so on, three bytes at a time.
     let before = [0, 3, 6, 9, 12, 13, 16, 19, 22, 25, 28, 31, 34];
-    let mut number = 0;
-    for written in before {
-        number += 1;
+    for i in 0..before.len() {
+        let (number, written) = (i as u64 + 1, before[i]);
         let bytes = input(rt.alloc(), FIRST_SCRIPT)?;
         let (status, sink) = answer(rt.alloc(), "run", bytes, SMOOTH, Flow::new(3, number))?;
         assert_eq!(rt; status, Status::WriteFault, "write {number}");

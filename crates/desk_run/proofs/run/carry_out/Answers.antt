@@ -1,4 +1,4 @@
-use Rattle.desk_run.proofs.CarryLemmas.{shows_dump, shows_sum, shows_nothing, text_sum}
+use Rattle.desk_run.proofs.CarryLemmas.{shows_dump, shows_sum, shows_nothing}
 use Rattle.desk_run.proofs.run.carry_out.Goals as goal
 
 pub returns-in-Dump-clause-shows : goal.returns-in-Dump-clause-shows

@@ -1,7 +1,5 @@
-use Rattle.std.proofs.Common.{◌≡◌, ◌∙◌, ◌*◌, ◌+◌, ap, sym, refl, true, false, length, [], ◌∷◌, ◌++◌, ℕ}
+use Rattle.std.proofs.Common.{◌∙◌, ◌*◌, ◌+◌, ap, sym, refl, true, false, [], ◌∷◌, ◌++◌}
 use Rattle.pix_format.specs.declared.format.Format.{Format}
-use Rattle.desk_run.specs.Desk.{State}
-use Rattle.desk_run.specs.Run.{text_of}
 use Rattle.desk_run.specs.Texts.{digits_of}
 use Rattle.desk_run.proofs.PutLemmas.{puts_to}
 use Rattle.desk_run.proofs.HistoryLemmas.{nothing_done, so_far_more, stopped_in, finished, unfinished, command_at, command_is, whole_entry}

@@ -1,4 +1,4 @@
-use Rattle.std.proofs.Common.{◌≡◌, ◌∙◌, ap, sym, Some, List, ℕ}
+use Rattle.std.proofs.Common.{◌≡◌, ◌∙◌, ap, Some, List, ℕ}
 use Rattle.std.specs.Vec.{with_items}
 use Rattle.std.proofs.lemmas.List.{with_items_is}
 use Rattle.surf_obj.specs.Surface.{Surface, redrawn}

@@ -2,7 +2,6 @@ use Rattle.std.proofs.Common.{◌+◌, ◌≤◌, suc, length}
 use Rattle.std.specs.Prelude.{All}
 use Rattle.std.specs.Option.{option_copied, option_map_or}
 use Rattle.desk_run.specs.Words.Lines.{lines_of, lines_after}
-use Rattle.desk_run.specs.declared.config.DeskConfig.{DeskConfig}
 use Rattle.desk_run.specs.Input.{IsKnown}
 use Rattle.desk_run.specs.Script.State.{state_of, first_state}
 use Rattle.desk_run.specs.Script.Reading.{read_lines}
