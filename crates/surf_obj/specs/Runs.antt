@@ -2,10 +2,7 @@
 use Rattle.std.specs.Prelude.{ℕ, pos, ◌-◌, ◌+ℤ◌, List, Option, Some, slice_index, unsigned_abs}
 use Rattle.geom_base.specs.declared.point.Point.{Point}
 use Rattle.geom_base.specs.declared.rect.Rect.{Rect}
-
--- the columns from left to before right, of the rows from top to before bottom
-abbrev pub box_of : ℕ → ℕ → ℕ → ℕ → Rect
-box_of left top right bottom = record { left = pos left; top = pos top; right = pos right; bottom = pos bottom }
+pub use Rattle.geom_base.specs.Points.{box_of}
 
 -- so many pixels of a row, from a point on
 abbrev pub run_of : Point → ℕ → Rect

@@ -1,6 +1,6 @@
 //! Bytes and values side by side.
 
-ghost use Rattle.std.specs.Prelude.{◌≤◌, ◌<◌, ◌^◌, All, length};
+ghost use Rattle.std.specs.Prelude.{◌≤◌, ◌<◌, ◌+◌, ◌^◌, All, length};
 ghost use Rattle.pix_format.specs.Value.{bits_of};
 ghost use Rattle.surf_obj.specs.Layout.{row_bytes};
 
@@ -11,6 +11,8 @@ use std::process::Abort;
 use std::test::Fail;
 
 const ORIGIN: Point = Point { x: 0, y: 0 };
+
+const ELEVEN: Size = Size { w: 11, h: 1 };
 
 const THREE: Size = Size { w: 3, h: 1 };
 
@@ -162,4 +164,98 @@ fn a_new_surface_is_blank_and_its_rows_are_padded(rt: HostRuntime) -> Result<(),
     surface.lend().set(ORIGIN, 4);
     assert_eq!(rt; surface.bits().len(), 24);
     Ok(())
+}
+
+/// The bit of a byte at a place, counted from the highest, set to a bit of a value; past the end nothing.
+fn put_bit(bytes: &mut [u8], place: usize, bit: u32) {
+    if let Some(byte) = bytes.get_mut(place / 8) {
+        let mask = 128u8 >> (place % 8);
+        if bit == 0 {
+            *byte &= !mask;
+        } else {
+            *byte |= mask;
+        }
+    }
+}
+
+/// One pixel put into bytes, bit by bit: under 8 bits the first pixel is the highest, else the lowest byte is first.
+fn put_plainly(bytes: &mut [u8], depth: usize, x: usize, value: u32)
+    requires x { x < 16 }
+    requires depth { depth ≤ 32 }
+{
+    for i in 0..depth {
+        let bit = (value >> (depth - 1 - i)) & 1;
+        put_bit(bytes, x * depth + (depth - 1 - i) / 8 * 8 + i % 8, bit);
+    }
+}
+
+/// Values of a format, one more than the greatest run has.
+fn sample(format: Format) -> [u32; 11]
+    ensures { All (λ v. v < 2 ^ bits_of format) result }
+{
+    match format {
+        Format::B1 => [1, 0, 1, 1, 0, 0, 1, 0, 1, 1, 1],
+        Format::B4 => [9, 1, 15, 0, 6, 8, 3, 12, 7, 14, 5],
+        Format::B8 => [0x81, 0, 0xff, 0x7e, 1, 0x80, 0x3c, 0xc3, 0x55, 0xaa, 0x0f],
+        Format::B555 | Format::B565 => [
+            0x8001, 0, 0xffff, 0x7ffe, 1, 0x8000, 0x1234, 0xfedc, 0x55aa, 0xaa55, 0x00ff,
+        ],
+        Format::B24 => [
+            0x800001, 0, 0xffffff, 0x123456, 1, 0x800000, 0xfedcba, 0x0000ff, 0xff0000, 0x00ff00,
+            0x55aa55,
+        ],
+        Format::B32 => [
+            0x80000001, 0, 0xffffffff, 0x12345678, 1, 0x80000000, 0xfedcba98, 0xff, 0xff00,
+            0xff0000, 0xff000000,
+        ],
+    }
+}
+
+/// Writes a run of a row of eleven pixels, and compares the bytes with those of the plain way, and what is read.
+fn aligned(rt: &impl Abort, format: Format, depth: usize, x: u32, count: usize)
+    requires depth { depth ≤ 32 }
+    requires run { x + count ≤ 11 }
+{
+    let values = sample(format);
+    let mut bytes = [0x5au8; 44];
+    let mut plain = [0x5au8; 44];
+    let mut read = [0u32; 11];
+    {
+        let mut surface = LentSurf::on(&mut bytes, ELEVEN, format, 44, false);
+        surface.write_run(x, 0, &values[..count]);
+        surface.read_run(x, 0, &mut read[..count]);
+    }
+    for i in 0..count {
+        put_plainly(&mut plain, depth, x as usize + i, values[i]);
+    }
+    assert_eq!(rt;
+        bytes.as_slice(),
+        plain.as_slice(),
+        "{format:?} from {x}, {count} pixels"
+    );
+    assert_eq!(rt;
+        &read[..count],
+        &values[..count],
+        "{format:?} from {x}, {count} pixels"
+    );
+}
+
+#[test]
+fn every_alignment_of_a_short_row(rt: HostRuntime) {
+    let formats = [
+        (Format::B1, 1),
+        (Format::B4, 4),
+        (Format::B8, 8),
+        (Format::B555, 16),
+        (Format::B565, 16),
+        (Format::B24, 24),
+        (Format::B32, 32),
+    ];
+    for (format, depth) in formats {
+        for x in 0..11 {
+            for count in 0..12 - x {
+                aligned(&rt, format, depth, x, count as usize);
+            }
+        }
+    }
 }

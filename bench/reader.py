@@ -1,0 +1,52 @@
+#!/usr/bin/env python3
+"""How fast a script is read: 100,000 commands and as many names as there are forms for, in 16 MiB.
+
+    bench/reader.py [--gdi PATH] [--runs N]
+
+Prints the least time of some runs, and the speed over the bytes of the input. An empty script on the same
+configuration is the time of a start.
+"""
+import argparse
+import subprocess
+import time
+from pathlib import Path
+
+CONFIG = '[[screen]]\nkind = "linear"\nx = 0\ny = 0\nwidth = 1\nheight = 1\nformat = "8"\n%%\n'
+BYTES = 16_777_216
+
+
+def script():
+    """1,024 brushes, 256 tables, and paints by name up to 100,000 commands; comments fill the text up."""
+    lines = [f"brush brush_number_{i} solid {i:06x}" for i in range(1024)]
+    lines += [f"table table_number_{i} 000000 FFFFFF" for i in range(256)]
+    lines += [f"paint screen 2 2 4 4 brush_number_{i * 7 % 1024} 13" for i in range(100_000 - len(lines))]
+    text = CONFIG + "\n".join(lines) + "\n"
+    spare = BYTES - len(text)
+    return (text + ("# " + "x" * 61 + "\n") * (spare // 64)).encode()
+
+
+def least(gdi, data, runs):
+    times = []
+    for _ in range(runs):
+        start = time.perf_counter()
+        run = subprocess.run([gdi, "run"], input=data, capture_output=True)
+        times.append(time.perf_counter() - start)
+        assert run.returncode == 0, run.stdout
+    return min(times)
+
+
+def main():
+    parser = argparse.ArgumentParser()
+    parser.add_argument("--gdi", type=Path, default=Path("crates/gdi_tool/out/gdi_tool"))
+    parser.add_argument("--runs", type=int, default=7)
+    asked = parser.parse_args()
+    gdi = asked.gdi.resolve()
+    data = script()
+    start = least(gdi, CONFIG.encode(), asked.runs)
+    whole = least(gdi, data, asked.runs)
+    print(f"start      {start * 1000:8.1f} ms")
+    print(f"100,000 commands in {len(data)} bytes {whole * 1000:8.1f} ms {len(data) / (whole - start) / 1e6:8.0f} MB/s")
+
+
+if __name__ == "__main__":
+    main()

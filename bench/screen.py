@@ -1,0 +1,44 @@
+#!/usr/bin/env python3
+"""How fast the screen is painted and dumped: the difference of two runs with other counts of the same command.
+
+    bench/screen.py [--gdi PATH] [--runs N]
+"""
+import argparse
+import subprocess
+import time
+from pathlib import Path
+
+WIDTH, HEIGHT = 1024, 768
+CONFIG = f'[[screen]]\nkind = "linear"\nx = 0\ny = 0\nwidth = {WIDTH}\nheight = {HEIGHT}\nformat = "8"\n%%\n'
+
+
+def least(gdi, line, count, runs):
+    data = (CONFIG + (line + "\n") * count).encode()
+    times = []
+    for _ in range(runs):
+        start = time.perf_counter()
+        subprocess.run([gdi, "run"], input=data, stdout=subprocess.DEVNULL, check=True)
+        times.append(time.perf_counter() - start)
+    return min(times)
+
+
+def main():
+    parser = argparse.ArgumentParser()
+    parser.add_argument("--gdi", type=Path, default=Path("crates/gdi_tool/out/gdi_tool"))
+    parser.add_argument("--runs", type=int, default=7)
+    asked = parser.parse_args()
+    gdi = asked.gdi.resolve()
+    pixels = WIDTH * HEIGHT
+    for name, line, few, many in [
+        ("solid paint", f"paint screen 0 0 {WIDTH} {HEIGHT} #FF0000 13", 10, 410),
+        ("solid paint of 16 by 16", "paint screen 8 8 24 24 #FF0000 13", 10, 50_010),
+        ("sum", "sum 0", 10, 210),
+        ("dump", "dump 0", 10, 110),
+    ]:
+        spent = (least(gdi, line, many, asked.runs) - least(gdi, line, few, asked.runs)) / (many - few)
+        area = 256 if "16 by 16" in name else pixels
+        print(f"{name:26} {spent * 1e6:10.2f} us {area / spent / 1e6:10.0f} Mpixel/s")
+
+
+if __name__ == "__main__":
+    main()
