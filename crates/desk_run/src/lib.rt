@@ -1,17 +1,23 @@
 //! The top call: an input is read, checked and run, and the pixels that it asks for are written.
+//!
+//! `specs/` has the definitions: the checked input (`Input`), one command on a desk (`Desk`), a run and its text
+//! (`Run`, `Texts`), and the answer of the call (`Answers`), which is the contract of `run_desktop`.
 #![tactic(auto)]
 
-pub mod call;
-pub mod command;
-pub mod config;
+mod call;
+mod command;
+mod config;
 mod dump;
-pub mod input;
-pub mod run;
-pub mod screen;
+mod input;
+mod run;
+mod screen;
 mod script;
-pub mod status;
+mod status;
 mod sum;
 #[cfg(test)]
 mod tests;
 mod text;
 mod words;
+
+pub use call::run_desktop;
+pub use status::{InputRefusal, Status};

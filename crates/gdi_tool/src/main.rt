@@ -2,8 +2,7 @@
 #![tactic(auto)]
 
 use desk_io::{StdSink, StdSource};
-use desk_run::call::run_desktop;
-use desk_run::status::Status;
+use desk_run::{Status, run_desktop};
 use std::io::ErrorKind;
 use std::process::ExitCode;
 use std::{env, io};
