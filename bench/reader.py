@@ -7,9 +7,9 @@ Prints the least time of some runs, and the speed over the bytes of the input. A
 configuration is the time of a start.
 """
 import argparse
-import subprocess
-import time
 from pathlib import Path
+
+from timing import least
 
 CONFIG = '[[screen]]\nkind = "linear"\nx = 0\ny = 0\nwidth = 1\nheight = 1\nformat = "8"\n%%\n'
 BYTES = 16_777_216
@@ -23,16 +23,6 @@ def script():
     text = CONFIG + "\n".join(lines) + "\n"
     spare = BYTES - len(text)
     return (text + ("# " + "x" * 61 + "\n") * (spare // 64)).encode()
-
-
-def least(gdi, data, runs):
-    times = []
-    for _ in range(runs):
-        start = time.perf_counter()
-        run = subprocess.run([gdi, "run"], input=data, capture_output=True)
-        times.append(time.perf_counter() - start)
-        assert run.returncode == 0, run.stdout
-    return min(times)
 
 
 def main():

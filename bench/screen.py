@@ -4,22 +4,16 @@
     bench/screen.py [--gdi PATH] [--runs N]
 """
 import argparse
-import subprocess
-import time
 from pathlib import Path
+
+from timing import least
 
 WIDTH, HEIGHT = 1024, 768
 CONFIG = f'[[screen]]\nkind = "linear"\nx = 0\ny = 0\nwidth = {WIDTH}\nheight = {HEIGHT}\nformat = "8"\n%%\n'
 
 
-def least(gdi, line, count, runs):
-    data = (CONFIG + (line + "\n") * count).encode()
-    times = []
-    for _ in range(runs):
-        start = time.perf_counter()
-        subprocess.run([gdi, "run"], input=data, stdout=subprocess.DEVNULL, check=True)
-        times.append(time.perf_counter() - start)
-    return min(times)
+def times(gdi, line, count, runs):
+    return least(gdi, (CONFIG + (line + "\n") * count).encode(), runs)
 
 
 def main():
@@ -35,7 +29,7 @@ def main():
         ("sum", "sum 0", 10, 210),
         ("dump", "dump 0", 10, 110),
     ]:
-        spent = (least(gdi, line, many, asked.runs) - least(gdi, line, few, asked.runs)) / (many - few)
+        spent = (times(gdi, line, many, asked.runs) - times(gdi, line, few, asked.runs)) / (many - few)
         area = 256 if "16 by 16" in name else pixels
         print(f"{name:26} {spent * 1e6:10.2f} us {area / spent / 1e6:10.0f} Mpixel/s")
 
