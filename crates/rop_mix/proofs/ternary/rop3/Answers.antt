@@ -1,4 +1,3 @@
-use Rattle.std.proofs.Common.{rules}
 use Rattle.std.specs.Int.Bits.{mask_lt}
 use Rattle.rop_mix.proofs.BitLemmas.{word_is_rop3}
 use Rattle.rop_mix.proofs.ternary.rop3.Goals as goal
