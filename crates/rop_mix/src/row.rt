@@ -7,7 +7,8 @@ use crate::lanes::combine_lanes;
 use crate::operand::{Listed, Operand, Solid};
 use crate::ternary::rop3;
 
-/// What `rop3` gives for each value of a row, with a pattern value and a source value for each.
+/// What `rop3` gives for each value of a row, with a pattern value and a source value for each: three rows of one
+/// length, and at most 32 bits a value.
 pub fn apply_row(code: u8, p: &[u32], s: &[u32], d: &mut [u32], bits: u32)
     requires bits { bits ≤ 32 }
     requires pattern { length p.now ≡ length d.old }
@@ -17,7 +18,8 @@ pub fn apply_row(code: u8, p: &[u32], s: &[u32], d: &mut [u32], bits: u32)
     combine(code, &Listed(p), &Listed(s), d, bits);
 }
 
-/// What `rop3` gives for each value of a row, with one pattern value for all and a source value for each.
+/// What `rop3` gives for each value of a row, with one pattern value for all and a source value for each. A code that
+/// needs no source may be given any row of that length.
 pub fn apply_solid(code: u8, p: u32, s: &[u32], d: &mut [u32], bits: u32)
     requires bits { bits ≤ 32 }
     requires source { length s.now ≡ length d.old }
@@ -26,7 +28,8 @@ pub fn apply_solid(code: u8, p: u32, s: &[u32], d: &mut [u32], bits: u32)
     combine(code, &Solid(p), &Listed(s), d, bits);
 }
 
-/// What `rop3` gives for each value of a row, with one pattern value for all and the source 0.
+/// What `rop3` gives for each value of a row, with one pattern value for all and the source 0: what a mix does, and each
+/// code that needs no source.
 pub fn apply_fill(code: u8, p: u32, d: &mut [u32], bits: u32)
     requires { bits ≤ 32 }
     ensures { EachIndex d.new (λ k. slice_index d.new k ≡ rop3_of code p 0 (slice_index d.old k) bits) }

@@ -1,5 +1,6 @@
 use super::*;
 use std::alloc::{AllocError, Global};
+use std::simd::u32x8;
 
 /// The codes with a loop of their own, and some without.
 const CODES: [u8; 18] = [
@@ -172,6 +173,14 @@ fn mixed(alloc: Global, count: usize, by: u32) -> Result<Vec<u32>, AllocError> {
         values.push(value)?;
     }
     Ok(values)
+}
+
+#[test]
+fn lanes_do_what_one_value_does(rt: HostRuntime) {
+    let s = u32x8::from_array([0, 1, 2, 3, 4, 5, 6, 0x1ff]);
+    let got = apply_lanes(0x66, u32x8::splat(9), s, u32x8::splat(0x30), 8);
+    let want = [0x30, 0x31, 0x32, 0x33, 0x34, 0x35, 0x36, 0xcf];
+    assert_eq!(rt; got.to_array(), want);
 }
 
 #[test]
