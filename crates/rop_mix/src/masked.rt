@@ -36,7 +36,7 @@ fn combine_masked<const CODE: u16>(m: &[u32], p: &[u32], s: &[u32], d: &mut [u32
     combine_any(Rop4::of(CODE), m, p, s, d, bits);
 }
 
-/// The operation of any code.
+/// The operation of any code. Inlined, so that a code that the compiler knows takes only its own steps.
 #[inline(always)]
 fn combine_any(rop: Rop4, m: &[u32], p: &[u32], s: &[u32], d: &mut [u32], bits: u32)
     requires bits { bits ≤ 32 }
