@@ -4,7 +4,8 @@ use Rattle.pix_format.specs.declared.format.Format.{Format}
 use Rattle.desk_io.specs.Sinks.{Puts, puts_on, puts_stopped}
 use Rattle.surf_obj.specs.Surface.{Surface}
 use Rattle.desk_run.specs.declared.command.Named.{Named}
-use Rattle.desk_run.specs.Texts.{head_text, rows_text, dump_text, digits_of}
+use Rattle.pix_format.specs.Value.{digits_of}
+use Rattle.desk_run.specs.Texts.{head_text, rows_text, dump_text}
 use Rattle.desk_run.proofs.PutLemmas.{puts_to}
 
 head_same : (q : Named) (s : Surface) (piece : List ℕ) (size : Size) (format : Format) → piece ≡ head_text q size format → size ≡ s.size → format ≡ s.format → piece ≡ head_text q s.size s.format

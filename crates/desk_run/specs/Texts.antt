@@ -6,6 +6,7 @@ use Rattle.geom_base.specs.declared.rect.Rect.{Rect}
 use Rattle.geom_base.specs.declared.size.Size.{Size as SurfaceSize}
 use Rattle.pix_format.specs.declared.format.Format.{Format}
 use Rattle.pix_format.specs.declared.format.Format.TheVariants.{B1, B4, B8, B555, B565, B24, B32}
+use Rattle.pix_format.specs.Value.{digits_of}
 use Rattle.surf_obj.specs.Surface.{Surface}
 use Rattle.desk_run.specs.declared.command.Named.{Named}
 use Rattle.desk_run.specs.declared.command.Named.TheVariants.{Screen}
@@ -23,16 +24,7 @@ unfoldable pub hex_digits : ℕ → ℕ → List ℕ
 hex_digits zero value = []
 hex_digits (suc digits) value = hex_digits digits (value / 16) ++ hex_digit (value % 16) ∷ []
 
--- how many digits a value of a format has
-abbrev pub digits_of : Format → ℕ
-digits_of B1 = 1
-digits_of B4 = 1
-digits_of B8 = 2
-digits_of B555 = 4
-digits_of B565 = 4
-digits_of B24 = 6
-digits_of B32 = 8
-
+-- how a format is named
 abbrev pub format_text : Format → List ℕ
 format_text B1 = codes "1"
 format_text B4 = codes "4"

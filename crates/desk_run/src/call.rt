@@ -4,7 +4,7 @@ ghost use Rattle.std.specs.Prelude.{◌≡◌, ◌≤◌, ◌*◌, ◌+◌, ◌�
 ghost use Rattle.desk_io.specs.Counts.{Rose};
 ghost use Rattle.desk_io.specs.Sources.{most_bytes};
 ghost use Rattle.desk_run.specs.Answers.{Answered, Ends, Says, form_of, input_of};
-ghost use Rattle.desk_run.specs.Texts.{digits_of};
+ghost use Rattle.pix_format.specs.Value.{digits_of};
 ghost use Rattle.desk_run.specs.Input.{checked, checked_of, IsScreenSize, IsKnown};
 ghost use Rattle.desk_run.specs.declared.status.Status.TheVariants as status;
 
@@ -12,7 +12,7 @@ use crate::input::{Input, InputError, read_input};
 use crate::run::{Ended, run_all};
 use crate::screen::Screen;
 use crate::status::{InputRefusal, Status};
-use crate::text::{digits, plain_line};
+use crate::text::plain_line;
 use desk_io::{ReadRefusal, Sink, Source, read_all, write_all};
 use std::alloc::{AllocError, Global};
 
@@ -41,7 +41,8 @@ fn say<K: Sink>(sink: &mut K, status: Status) -> Status
 fn row_line(alloc: Global, screen: &Screen) -> Result<Vec<u8>, AllocError>
     ensures { IfOk result (λ v. length v.items ≡ digits_of screen.now.format * screen.now.size.w + 1) }
 {
-    let count = digits(screen.format()) * screen.size().w as usize + 1;
+    let digits = screen.format().digits();
+    let count = digits as usize * screen.size().w as usize + 1;
     vec![in alloc; 0u8; count]
 }
 

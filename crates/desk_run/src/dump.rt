@@ -2,11 +2,12 @@
 
 ghost use Rattle.std.specs.Prelude.{◌≡◌, ◌<◌, ◌+◌, ◌*◌, length, is_err};
 ghost use Rattle.desk_io.specs.Sinks.{Puts};
-ghost use Rattle.desk_run.specs.Texts.{hex_digit, hex_digits, row_text, rows_text, dump_text, digits_of};
+ghost use Rattle.pix_format.specs.Value.{digits_of};
+ghost use Rattle.desk_run.specs.Texts.{hex_digit, hex_digits, row_text, rows_text, dump_text};
 
 use crate::command::Named;
 use crate::screen::Screen;
-use crate::text::{digits, head_line};
+use crate::text::head_line;
 use desk_io::{Sink, WriteFault, write_all};
 
 /// The hexadecimal digit of a number below 16.
@@ -79,5 +80,5 @@ pub fn put_dump<K: Sink>(
     if write_all(sink, head.as_slice()).is_err() {
         return Err(WriteFault);
     }
-    put_rows(sink, screen, digits(format), line)
+    put_rows(sink, screen, format.digits() as usize, line)
 }

@@ -4,7 +4,7 @@ ghost use Rattle.std.specs.Prelude.{◌≡◌, ◌≤◌, ◌+◌, ◌*◌, ℕ,
 ghost use Rattle.desk_io.specs.Sinks.{Puts};
 ghost use Rattle.desk_run.specs.Desk.{State, Shows, carried};
 ghost use Rattle.desk_run.specs.Input.{IsKnown};
-ghost use Rattle.desk_run.specs.Texts.{digits_of};
+ghost use Rattle.pix_format.specs.Value.{digits_of};
 ghost use Rattle.desk_run.specs.Run.{Entry, RanOn, text_of};
 
 use crate::command::ScriptCommand;

@@ -70,20 +70,6 @@ pub fn end_line(count: u64) -> Line
     line
 }
 
-/// How many digits a value of a format has.
-pub fn digits(format: Format) -> usize
-    ensures value { result ≡ spec.digits_of format }
-    ensures most { result ≤ 8 }
-{
-    match format {
-        Format::B1 | Format::B4 => 1,
-        Format::B8 => 2,
-        Format::B555 | Format::B565 => 4,
-        Format::B24 => 6,
-        Format::B32 => 8,
-    }
-}
-
 /// The first line of a dump.
 pub fn head_line(name: Named, size: Size, format: Format) -> Line
     ensures { result.items ≡ spec.head_text name size format }

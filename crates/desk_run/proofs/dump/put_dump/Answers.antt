@@ -8,4 +8,4 @@ returns-then-is_err g c =
 
 pub returns : goal.returns
 returns g c =
-    dumped c.args.name c.args.screen.now _ _ _ c.digits.result _ _ _ _ _ _ _ _ (c.as_slice.ensures.value ∙ c.head_line-head.ensures) c.size.ensures.size c.format-format.ensures c.digits.ensures.value (sym c.if-is_err.false ∙ c.is_err.ensures.value) c.write_all.ensures c.put_rows.ensures
+    dumped c.args.name c.args.screen.now _ _ _ c.digits.result _ _ _ _ _ _ _ _ (c.as_slice.ensures.value ∙ c.head_line-head.ensures) c.size.ensures.size c.format-format.ensures c.digits.ensures (sym c.if-is_err.false ∙ c.is_err.ensures.value) c.write_all.ensures c.put_rows.ensures

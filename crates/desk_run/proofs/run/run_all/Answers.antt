@@ -1,6 +1,6 @@
 use Rattle.std.proofs.Common.{◌∙◌, ◌*◌, ◌+◌, ap, sym, refl, true, false, [], ◌∷◌, ◌++◌}
 use Rattle.pix_format.specs.declared.format.Format.{Format}
-use Rattle.desk_run.specs.Texts.{digits_of}
+use Rattle.pix_format.specs.Value.{digits_of}
 use Rattle.desk_run.proofs.PutLemmas.{puts_to}
 use Rattle.desk_run.proofs.HistoryLemmas.{nothing_done, so_far_more, stopped_in, finished, unfinished, command_at, command_is, whole_entry}
 use Rattle.desk_run.proofs.run.run_all.Goals as goal

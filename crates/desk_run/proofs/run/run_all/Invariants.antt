@@ -1,6 +1,6 @@
 use Rattle.std.proofs.Common.{◌≡◌, ◌*◌, ◌+◌, length, List}
 use Rattle.desk_run.specs.Run.{Entry}
-use Rattle.desk_run.specs.Texts.{digits_of}
+use Rattle.pix_format.specs.Value.{digits_of}
 use Rattle.desk_run.proofs.HistoryLemmas.{SoFar}
 use Rattle.desk_run.proofs.run.run_all.Given as goal
 
