@@ -1,21 +1,17 @@
 use Rattle.std.proofs.Common.{◌≡◌, ℕ, zero, suc, Bool, false, List, [], Option, Some, refl, sym, ap, arith}
 use Rattle.desk_io.specs.Sinks.{Puts, puts_nothing}
 use Rattle.surf_obj.specs.Surface.{Surface}
-use Rattle.surf_obj.specs.Steps.{redrawn_nowhere}
+use Rattle.surf_obj.specs.Changes.{changed, changed_nowhere}
 use Rattle.desk_run.specs.declared.command.Named.{Named}
 use Rattle.desk_run.specs.declared.command.Named.TheVariants.{Screen}
 use Rattle.desk_run.specs.declared.command.PaintOrder.{PaintOrder}
 use Rattle.desk_run.specs.declared.command.ScriptCommand.{ScriptCommand}
 use Rattle.desk_run.specs.declared.command.ScriptCommand.TheVariants.{Paint, Dump, Sum, Nothing}
-use Rattle.desk_run.specs.Desk.{State, Change, Shows, changed, painted, reach_of, carried, surface_of, new_of}
+use Rattle.desk_run.specs.Desk.{State, Shows, painted, reach_of, carried, surface_of, new_of}
 use Rattle.desk_run.specs.Input.{IsKnown, IsThere}
 use Rattle.desk_run.specs.Run.{text_of}
 use Rattle.desk_run.specs.Texts.{dump_text, sum_text}
 use Rattle.desk_run.proofs.PutLemmas.{puts_to}
-
--- a step on no point
-still : (s : Surface) (new : Change) → changed new (λ p. false) s ≡ s
-still s new = ap (λ (vs : List ℕ). record { size = s.size; format = s.format; table = s.table; values = vs }) (redrawn_nowhere s.size s.values new)
 
 -- what a command leaves of the screen
 
@@ -23,13 +19,13 @@ pub shows_paint : (o : PaintOrder) (c : ScriptCommand) (s t : Surface) (state : 
 shows_paint o c s t state is after shows = rw (is, shows, after) refl
 
 pub shows_dump : (q : Named) (c : ScriptCommand) (s : Surface) (state : State) → c ≡ Dump q → Shows s state → Shows s (carried c [] state)
-shows_dump q c s state is shows = rw (is, shows) (ap Some (still s (new_of state (Dump q) (Screen 0))))
+shows_dump q c s state is shows = rw (is, shows) (ap Some (changed_nowhere (new_of state (Dump q) (Screen 0)) s))
 
 pub shows_sum : (q : Named) (c : ScriptCommand) (s : Surface) (state : State) → c ≡ Sum q → Shows s state → Shows s (carried c [] state)
-shows_sum q c s state is shows = rw (is, shows) (ap Some (still s (new_of state (Sum q) (Screen 0))))
+shows_sum q c s state is shows = rw (is, shows) (ap Some (changed_nowhere (new_of state (Sum q) (Screen 0)) s))
 
 pub shows_nothing : (c : ScriptCommand) (s : Surface) (state : State) → c ≡ Nothing → Shows s state → Shows s (carried c [] state)
-shows_nothing c s state is shows = rw (is, shows) (ap Some (still s (new_of state Nothing (Screen 0))))
+shows_nothing c s state is shows = rw (is, shows) (ap Some (changed_nowhere (new_of state Nothing (Screen 0)) s))
 
 -- what is written of a command
 

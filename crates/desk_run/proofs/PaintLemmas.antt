@@ -5,7 +5,8 @@ use Rattle.pix_format.specs.declared.rgb.Rgb.{Rgb}
 use Rattle.pix_format.specs.Value.{value_of}
 use Rattle.surf_obj.specs.Surface.{Surface, point_at, redrawn}
 use Rattle.surf_obj.proofs.StepLemmas.{redrawn_same}
-use Rattle.desk_run.specs.Desk.{changed, painted}
+use Rattle.surf_obj.specs.Changes.{changed}
+use Rattle.desk_run.specs.Desk.{painted}
 
 -- a part that is filled with a colour's value is a paint of its rectangle
 pub painted_part : (s : Surface) (r : Rect) (colour : Rgb) (left top right bottom v : ℕ) (values : List ℕ) → length s.values ≡ s.size.w * s.size.h → v ≡ value_of s.format s.table colour →

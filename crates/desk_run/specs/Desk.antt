@@ -8,7 +8,8 @@ use Rattle.pix_format.specs.declared.format.Format.TheVariants.{B8}
 use Rattle.pix_format.specs.declared.rgb.Rgb.{Rgb}
 use Rattle.pix_format.specs.Standard.{standard_colours}
 use Rattle.pix_format.specs.Value.{value_of}
-use Rattle.surf_obj.specs.Surface.{Surface, redrawn}
+use Rattle.surf_obj.specs.Surface.{Surface}
+use Rattle.surf_obj.specs.Changes.{Area, Change, changed, nowhere, untouched}
 use Rattle.desk_run.specs.declared.command.Named.{Named}
 use Rattle.desk_run.specs.declared.command.Named.TheVariants.{Screen}
 use Rattle.desk_run.specs.declared.command.PaintOrder.{PaintOrder}
@@ -37,18 +38,6 @@ first_state config (Screen n) = if nat_eq n 0 then Some (blank config.size B8 (s
 abbrev pub Shows : Surface → State → Type 0
 Shows s state = state (Screen 0) ≡ Some s
 
--- a set of points
-abbrev pub Area : Type 0
-Area = Point → Bool
-
--- a new value at a point, from the old one, or none: untouched
-abbrev pub Change : Type 0
-Change = Point → ℕ → Option ℕ
-
--- each point of the area has its new value, all at once from the old ones
-abbrev pub changed : Change → Area → Surface → Surface
-changed new area s = record { size = s.size; format = s.format; table = s.table; values = redrawn s.size s.values area new }
-
 -- the points of the desk that a paint reaches
 abbrev pub reach_of : PaintOrder → Area
 reach_of o p = is_in p o.rect
@@ -56,12 +45,6 @@ reach_of o p = is_in p o.rect
 -- a solid paint gives each point the value of its colour on this surface
 abbrev pub painted : Surface → Rgb → Change
 painted s colour p old = Some (value_of s.format s.table colour)
-
-abbrev pub nowhere : Area
-nowhere p = false
-
-abbrev pub untouched : Change
-untouched p old = None
 
 -- the points of a target in a command's reach; the desk's only screen has the desk's own coordinates
 abbrev pub area_of : ScriptCommand → Named → Area

@@ -6,7 +6,8 @@ ghost use Rattle.pix_format.specs.Standard.{standard_colours};
 ghost use Rattle.desk_run.specs.Input.{IsScreenSize};
 ghost use Rattle.geom_base.specs.Points.{is_in, box_of};
 ghost use Rattle.surf_obj.specs.Surface.{point_at, redrawn};
-ghost use Rattle.desk_run.specs.Desk.{blank, changed, painted, reach_of};
+ghost use Rattle.surf_obj.specs.Changes.{changed};
+ghost use Rattle.desk_run.specs.Desk.{blank, painted, reach_of};
 
 use crate::command::PaintOrder;
 use geom_base::{Rect, Size};
