@@ -1,0 +1,3 @@
+pub mod RowLemmas
+pub mod WrapLemmas
+pub mod BrushLemmas
