@@ -3,3 +3,4 @@ pub mod Hatches
 pub mod Image
 pub mod Brush
 pub mod Realised
+pub mod Slots

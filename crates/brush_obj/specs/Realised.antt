@@ -1,5 +1,5 @@
--- A realised brush, and the slots of a brush in which drivers keep theirs.
-use Rattle.std.specs.Prelude.{ℕ, List, [], ◌∷◌, Option, Some, None, Bool, length, ◌≡◌, ◌*◌, ◌==◌, if◌then◌else◌}
+-- A realised brush: the values of a brush's square on one kind of surface.
+use Rattle.std.specs.Prelude.{ℕ, List, [], length, ◌≡◌, ◌≤◌, ◌*◌}
 use Rattle.geom_base.specs.declared.size.Size.{Size}
 
 -- its size, its values so far row by row, and room for how many more
@@ -7,6 +7,12 @@ pub record Realised : Type 0 where
   pub size : Size
   pub values : List ℕ
   pub room : ℕ
+
+-- it has a size, no values yet, and room for all of them
+pub record IsReadyFor (wanted : Size) (r : Realised) : Type 0 where
+  pub size : r.size ≡ wanted
+  pub values : r.values ≡ []
+  pub room : wanted.w * wanted.h ≤ r.room
 
 -- it has all its values
 abbrev pub HasAllValues : Realised → Type 0
