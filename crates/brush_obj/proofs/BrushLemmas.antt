@@ -3,7 +3,7 @@ use Rattle.std.proofs.Common.{◌≡◌, ℕ, pos, ◌+ℤ◌, ◌-ℤ◌, ◌+�
 use Rattle.std.specs.List.{slice_range}
 use Rattle.std.proofs.lemmas.List.Edits.{get_or-between, length-between}
 use Rattle.std.proofs.lemmas.Nat.{mul-add-lt, mod_below}
-use Rattle.std.proofs.Math.Nat.{add-mul, mod-eq_of_lt}
+use Rattle.std.proofs.Math.Nat.{mod-eq_of_lt}
 use Rattle.geom_base.proofs.GridLemmas.{get_or-grid_of, same_grid}
 use Rattle.surf_obj.specs.Surface.{value_at, point_at}
 use Rattle.geom_base.specs.declared.point.Point.{Point}
@@ -25,16 +25,23 @@ tile_after face format table origin at size x y k same some column row =
     (rw (column_after at.x origin.x k size.w some, column, row) refl)
 
 -- an item of a row of a grid
-pub row_item : (xs : List ℕ) (w h y j : ℕ) → length xs ≡ w * h → y < h → j < w → (length (slice_range xs (y * w) ((y + 1) * w)) ≡ w) × (get_or (slice_range xs (y * w) ((y + 1) * w)) j 0 ≡ get_or xs (y * w + j) 0)
+pub row_item : (xs : List ℕ) (w h y j : ℕ) → length xs ≡ w * h → y < h → j < w → (length (slice_range xs (y * w) (y * w + w)) ≡ w) × (get_or (slice_range xs (y * w) (y * w + w)) j 0 ≡ get_or xs (y * w + j) 0)
 row_item xs w h y j long hy hj =
-    let next : (y + 1) * w ≡ y * w + w = omega (arith, add-mul y 1 w) in
-    let within : (y + 1) * w ≤ length xs = let last = mul-add-lt y w (w - 1) h hy (omega arith) in omega arith in
-    (length-between xs (y * w) ((y + 1) * w) within ∙ omega arith, get_or-between xs (y * w) ((y + 1) * w) j 0 (omega arith))
+    let within : y * w + w ≤ length xs = let last = mul-add-lt y w (w - 1) h hy (omega arith) in omega arith in
+    (length-between xs (y * w) (y * w + w) within ∙ omega arith, get_or-between xs (y * w) (y * w + w) j 0 (omega arith))
+
+-- an item of a row of a grid, from a column on and round
+pub item_round : (xs : List ℕ) (w h x y k v : ℕ) → length xs ≡ w * h → 1 ≤ w → y < h → v ≡ get_or (slice_range xs (y * w) (y * w + w)) ((x + k) % length (slice_range xs (y * w) (y * w + w))) 0 →
+    (v ≡ get_or xs (y * w + (x + k) % w) 0) × (y * w + (x + k) % w < length xs)
+item_round xs w h x y k v long some inside e =
+    let below = mod_below (x + k) w some in
+    let item = row_item xs w h y ((x + k) % w) long inside below in
+    (e ∙ rw item.0 item.1, rw long (mul-add-lt y w ((x + k) % w) h inside below))
 
 -- the value of a pixel of a row, read from the row of a realised brush in which it begins
 pub realised_after : (xs : List ℕ) (size : Size) (origin at : Point) (x y k : ℕ) → length xs ≡ size.w * size.h → 1 ≤ size.w → y < size.h →
     x ≡ wrapped (at.x -ℤ origin.x) size.w → y ≡ wrapped (at.y -ℤ origin.y) size.h →
-    get_or (slice_range xs (y * size.w) ((y + 1) * size.w)) ((x + k % size.w) % length (slice_range xs (y * size.w) ((y + 1) * size.w))) 0 ≡ value_at size xs (wrapped ((at.x +ℤ pos k) -ℤ origin.x) size.w) (wrapped (at.y -ℤ origin.y) size.h)
+    get_or (slice_range xs (y * size.w) (y * size.w + size.w)) ((x + k % size.w) % length (slice_range xs (y * size.w) (y * size.w + size.w))) 0 ≡ value_at size xs (wrapped ((at.x +ℤ pos k) -ℤ origin.x) size.w) (wrapped (at.y -ℤ origin.y) size.h)
 realised_after xs size origin at x y k long some inside column row =
     let item = row_item xs size.w size.h y ((x + k % size.w) % size.w) long inside (mod_below (x + k % size.w) size.w some) in
     rw item.0 (item.1 ∙ rw (column_after at.x origin.x k size.w some, ← column, ← row) refl)

@@ -7,21 +7,6 @@ use Rattle.std.proofs.lemmas.Bool.{cases_eq}
 use Rattle.std.proofs.lemmas.Nat.{mul-add-lt, mod_below}
 use Rattle.std.proofs.Math.Nat.{mod-add-mod, mod-le, mul_comm}
 
--- one more value of a row
-pub one_more : (f : ℕ → ℕ) (out : List ℕ) (k v : ℕ) → k < length out → ((j : ℕ) → j < k → get_or out j 0 ≡ f j) → v ≡ f k → (j : ℕ) → j < k + 1 → get_or (set out k v) j 0 ≡ f j
-one_more f out k v inside done here j below = elim (cases_eq j k) [
-  | inl same ↦ subst (λ i. get_or (set out k v) i 0 ≡ f i) (sym same) (get_or-set_same out k v 0 inside ∙ here)
-  | inr other ↦ get_or-set_other out k j v 0 other ∙ done j (omega arith)
-]
-
--- what an index gives, with the place told otherwise
-pub value_there : (xs : List ℕ) (i j v : ℕ) → v ≡ get_or xs i v → i ≡ j → i < length xs → v ≡ get_or xs j 0
-value_there xs i j v e same inside = e ∙ get_or_default xs i v 0 inside ∙ ap (λ k. get_or xs k 0) same
-
--- a place of a grid is a place of its list
-pub inside_grid : (y w x h : ℕ) (xs : List ℕ) → length xs ≡ w * h → y < h → x < w → y * w + x < length xs
-inside_grid y w x h xs long hy hx = rw long (mul-add-lt y w x h hy hx)
-
 -- what holds of all values holds of those taken from among them
 pub All-taken : (P : ℕ → Type 0) (xs out : List ℕ) (g : ℕ → ℕ) → All P xs → ((j : ℕ) → j < length out → (get_or out j 0 ≡ get_or xs (g j) 0) × (g j < length xs)) → All P out
 All-taken P xs out g all taken = All-from_get_or P out 0 (λ j h. subst P (sym (taken j h).0) (All-get_or P xs (g j) 0 (taken j h).1 all))

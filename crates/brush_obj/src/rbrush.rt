@@ -98,9 +98,9 @@ impl RBrush {
         let width = self.size.w as usize;
         let x = wrapped(at.x, origin.x, self.size.w) as usize;
         let y = wrapped(at.y, origin.y, self.size.h) as usize;
-        let row = &self.values[y * width..(y + 1) * width];
+        let start = y * width;
         let first = out.len().min(width);
-        copy_round(row, x, &mut out[..first]);
+        copy_round(&self.values[start..start + width], x, &mut out[..first]);
         repeat(out, width);
     }
 }
