@@ -1,5 +1,5 @@
 -- The value of a brush at a point.
-use Rattle.std.proofs.Common.{◌≡◌, ℕ, pos, ◌+ℤ◌, ◌-ℤ◌, ◌+◌, ◌-◌, ◌*◌, ◌%◌, ◌<◌, ◌≤◌, List, length, add-zero, get_or, refl, sym, ◌∙◌, ap, subst, arith, rules}
+use Rattle.std.proofs.Common.{◌≡◌, ℕ, pos, ◌+ℤ◌, ◌-ℤ◌, ◌+◌, ◌-◌, ◌*◌, ◌%◌, ◌<◌, ◌≤◌, List, length, add-zero, get_or, refl, ◌∙◌, subst, arith}
 use Rattle.std.specs.List.{slice_range}
 use Rattle.std.proofs.lemmas.List.Edits.{get_or-between, length-between}
 use Rattle.std.proofs.lemmas.Nat.{mul-add-lt, mod_below}
@@ -11,7 +11,7 @@ use Rattle.geom_base.specs.declared.size.Size.{Size}
 use Rattle.pix_format.specs.declared.format.Format.{Format}
 use Rattle.pix_format.specs.declared.rgb.Rgb.{Rgb}
 use Rattle.brush_obj.specs.declared.face.BrushFace.{BrushFace}
-use Rattle.brush_obj.specs.Brush.{size_of, tile_value, brush_value, realised_values, value_of_realised, IsRealised}
+use Rattle.brush_obj.specs.Brush.{size_of, tile_value, brush_value, value_of_realised, IsRealised}
 use Rattle.brush_obj.specs.Realised.{Realised}
 use Rattle.brush_obj.specs.Wrapping.{wrapped}
 use Rattle.brush_obj.proofs.WrapLemmas.{column_after, wrapped-below}
@@ -68,5 +68,5 @@ pub filled_is_realised : (face : BrushFace) (format : Format) (table : List Rgb)
 filled_is_realised face format table r size long each = record {
   size = size;
   values = same_grid (size_of face).w (size_of face).h (λ x y. brush_value face format table (point_at 0 0) (point_at x y)) r.values long
-  (λ x y hx hy. each x y hx hy ∙ rw (wrapped-inside x (size_of face).w hx, wrapped-inside y (size_of face).h hy) refl);
+      (λ x y hx hy. each x y hx hy ∙ rw (wrapped-inside x (size_of face).w hx, wrapped-inside y (size_of face).h hy) refl);
 }

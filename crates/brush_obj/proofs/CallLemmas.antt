@@ -1,15 +1,15 @@
 -- The raster operation that copies.
-use Rattle.std.proofs.Common.{◌≡◌, ℕ, ◌+◌, ◌*◌, ◌/◌, ◌%◌, ◌^◌, ◌<◌, Bool, true, false, Option, Some, None, refl, sym, ◌∙◌, ap, arith, rules, ◌==◌, option_map}
+use Rattle.std.proofs.Common.{◌≡◌, ℕ, ◌+◌, ◌*◌, ◌/◌, ◌%◌, ◌^◌, ◌<◌, true, false, Some, None, refl, sym, ap, arith, ◌==◌}
 use Rattle.std.specs.Int.{bit_at}
 use Rattle.std.proofs.lemmas.Nat.Bits.{bit_at-lt}
 use Rattle.geom_base.specs.declared.point.Point.{Point}
 use Rattle.pix_format.specs.Value.{bits_of}
-use Rattle.rop_mix.specs.Needs.{source_needed, pattern_needed, mask_needed}
-use Rattle.rop_mix.specs.Rop.{rop_bit, rop3_of, rop4_of}
+use Rattle.rop_mix.specs.Needs.{source_needed, mask_needed}
+use Rattle.rop_mix.specs.Rop.{rop_bit, rop3_of}
 use Rattle.rop_mix.proofs.BitLemmas.{same_number_with_bits}
 use Rattle.rop_mix.proofs.MixLemmas.{checked_below}
 use Rattle.brush_obj.specs.declared.copy_call.CopyCall.{CopyCall}
-use Rattle.brush_obj.specs.Calls.{Operands, new_of_copy, source_value, source_alone, combined, operand, mask_value, blt_of}
+use Rattle.brush_obj.specs.Calls.{Operands, new_of_copy, source_value, source_alone}
 
 -- the source's bit alone
 copy_bit : (p s d : ℕ) → p < 2 → s < 2 → d < 2 → s ≡ rop_bit 204 p s d

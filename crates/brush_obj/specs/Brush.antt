@@ -11,7 +11,6 @@ use Rattle.surf_obj.specs.Surface.{value_at, point_at}
 use Rattle.brush_obj.specs.declared.face.BrushFace.{BrushFace}
 use Rattle.brush_obj.specs.declared.face.BrushFace.TheVariants.{Solid, Hatch, Pattern}
 use Rattle.brush_obj.specs.Hatches.{in_hatch}
-use Rattle.brush_obj.specs.Image.{Image}
 use Rattle.brush_obj.specs.Realised.{Realised}
 use Rattle.brush_obj.specs.Wrapping.{wrapped}
 

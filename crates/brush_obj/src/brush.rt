@@ -98,13 +98,7 @@ impl BrushObj {
     }
 
     /// The value at a point of a surface of this format and table.
-    pub fn value_at(
-        &self,
-        format: Format,
-        table: &ColourTable,
-        origin: Point,
-        p: Point,
-    ) -> u32
+    pub fn value_at(&self, format: Format, table: &ColourTable, origin: Point, p: Point) -> u32
         requires { length table.now ≡ colours_of format }
         ensures value { result ≡ brush_value self.now.face format table.now origin p }
         ensures fits { result < 2 ^ bits_of format }

@@ -24,7 +24,7 @@ pub enum BrushFace {
 impl BrushFace {
     ghost use Rattle.brush_obj.specs.Brush.{IsRealised, brush_value, is_solid, size_of, tile_value};
     ghost use Rattle.brush_obj.specs.Image.{HasPatternSides};
-    ghost use Rattle.brush_obj.specs.Realised.{IsReadyFor};
+    ghost use Rattle.brush_obj.specs.Realised.{HasAllValues, IsReadyFor};
 
     /// The size of the square that it repeats, which is that of the realised brush.
     pub fn size(&self) -> Size
@@ -39,13 +39,7 @@ impl BrushFace {
     }
 
     /// The value at a point of a surface of this format and table.
-    pub fn value_at(
-        &self,
-        format: Format,
-        table: &ColourTable,
-        origin: Point,
-        p: Point,
-    ) -> u32
+    pub fn value_at(&self, format: Format, table: &ColourTable, origin: Point, p: Point) -> u32
         requires { length table.now ≡ colours_of format }
         ensures value { result ≡ brush_value self.now format table.now origin p }
         ensures fits { result < 2 ^ bits_of format }
@@ -93,7 +87,8 @@ impl BrushFace {
     pub fn realise(&self, format: Format, table: &ColourTable, into: &mut RBrush)
         requires table { length table.now ≡ colours_of format }
         requires ready { IsReadyFor (size_of self.now) into.old }
-        ensures { IsRealised self.now format table.now into.new }
+        ensures realised { IsRealised self.now format table.now into.new }
+        ensures all { HasAllValues into.new }
     {
         let size = self.size();
         let mut room = [0; 64];

@@ -84,13 +84,6 @@ impl Pattern {
         let width = self.size.w as usize;
         let start = y as usize * width;
         copy_round(&self.values[start..start + width], x as usize, out);
-        convert_row(
-            self.format,
-            &self.table,
-            format,
-            table,
-            self.back,
-            out,
-        );
+        convert_row(self.format, &self.table, format, table, self.back, out);
     }
 }

@@ -32,7 +32,10 @@ fn points_of_hatches(rt: HostRuntime) -> Result<(), AllocError> {
         (Hatch::FDiagonal, [0x80, 0x40, 0x20, 0x10, 8, 4, 2, 1]),
         (Hatch::BDiagonal, [1, 2, 4, 8, 0x10, 0x20, 0x40, 0x80]),
         (Hatch::Cross, [8, 8, 8, 8, 0xff, 8, 8, 8]),
-        (Hatch::DiagCross, [0x81, 0x42, 0x24, 0x18, 0x18, 0x24, 0x42, 0x81]),
+        (
+            Hatch::DiagCross,
+            [0x81, 0x42, 0x24, 0x18, 0x18, 0x24, 0x42, 0x81],
+        ),
     ];
     for (kind, want) in rows {
         let brush = BrushObj::hatch(rt.alloc(), kind, WHITE, BLACK);
@@ -42,7 +45,9 @@ fn points_of_hatches(rt: HostRuntime) -> Result<(), AllocError> {
                 x: -16,
                 y: y as i32 - 8,
             };
-            brush.face().fill_row(Format::B1, &table, ORIGIN, at, &mut row);
+            brush
+                .face()
+                .fill_row(Format::B1, &table, ORIGIN, at, &mut row);
             let mut byte = 0;
             for value in row {
                 byte = byte << 1 | value;
@@ -73,7 +78,9 @@ fn points_of_a_pattern(rt: HostRuntime) -> Result<(), AllocError> {
         let mut row = [0; 4];
         let origin = Point { x: origin, y: -7 };
         let at = Point { x, y: 2 };
-        brush.face().fill_row(Format::B8, &table, origin, at, &mut row);
+        brush
+            .face()
+            .fill_row(Format::B8, &table, origin, at, &mut row);
         assert_eq!(rt; row, want, "{x}");
         assert_eq!(rt; brush.value_at(Format::B8, &table, origin, at), want[0]);
     }
@@ -96,20 +103,23 @@ fn a_pattern_in_one_bit(rt: HostRuntime) -> Result<(), AllocError> {
     Ok(())
 }
 
+/// Why a brush was refused, if it was.
+fn refusal_of(made: Result<BrushObj, BrushRefusal>) -> Option<BrushRefusal> {
+    made.err()
+}
+
 #[test]
 fn sides_of_patterns(rt: HostRuntime) -> Result<(), AllocError> {
     let table = ColourTable::standard(rt.alloc(), Format::B8)?;
-    let values = [0; 65];
-    for (w, h, is_made) in [(65, 1, false), (1, 65, false), (64, 1, true), (1, 64, true)] {
-        let size = Size { w, h };
-        let pixels = &values[..(w * h) as usize];
-        let made = BrushObj::pattern(rt.alloc(), size, Format::B8, &table, pixels, WHITE);
-        match made {
-            Ok(brush) => assert_eq!(rt; brush.face().size(), size),
-            Err(refusal) => assert_eq!(rt; refusal, BrushRefusal::TooLarge(size)),
-        }
-        assert_eq!(rt; w <= 64 && h <= 64, is_made);
-    }
+    let wide = Size { w: 65, h: 1 };
+    let made = BrushObj::pattern(rt.alloc(), wide, Format::B8, &table, &[0; 65], WHITE);
+    assert_eq!(rt; refusal_of(made), Some(BrushRefusal::TooLarge(wide)));
+    let high = Size { w: 1, h: 65 };
+    let made = BrushObj::pattern(rt.alloc(), high, Format::B8, &table, &[0; 65], WHITE);
+    assert_eq!(rt; refusal_of(made), Some(BrushRefusal::TooLarge(high)));
+    let square = Size { w: 64, h: 1 };
+    let made = BrushObj::pattern(rt.alloc(), square, Format::B8, &table, &[0; 64], WHITE);
+    assert_eq!(rt; refusal_of(made), None);
     Ok(())
 }
 

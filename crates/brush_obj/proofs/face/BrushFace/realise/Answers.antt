@@ -1,4 +1,4 @@
-use Rattle.std.proofs.Common.{◌≡◌, ◌+◌, ◌*◌, ◌%◌, ◌<◌, ◌≤◌, ◌∙◌, ℕ, length, ap, sym, zero-add, rules, arith}
+use Rattle.std.proofs.Common.{◌≡◌, ◌+◌, ◌*◌, ◌%◌, ◌∙◌, ℕ, length, ap, zero-add, arith}
 use Rattle.std.proofs.lemmas.List.{length-take, length-append}
 use Rattle.std.proofs.Math.Nat.{add-mul, mod-eq_of_lt, mul_comm}
 use Rattle.geom_base.specs.declared.size.Size.{Size}
@@ -34,14 +34,20 @@ loop-y-preserved c =
       count = rw c.put_row.ensures.values (length-append c.loop-y.into.values c.fill_part.new.out ∙ omega arith);
       room = let room = c.put_row.ensures.room in let before = c.loop-y.invariant.room in omega arith;
       done = rw c.put_row.ensures.values (one_more_row (λ x y. tile_value c.args.self.now c.args.format c.args.table.now x y) c.loop-y.into.values c.fill_part.new.out (size_of c.args.self.now).w c.loop-y.y
-        count wide c.loop-y.invariant.done (λ x hx.
+          count wide c.loop-y.invariant.done (λ x hx.
           c.fill_part.ensures.values x (omega arith)
           ∙ ap (λ (n : ℕ). tile_value c.args.self.now c.args.format c.args.table.now n c.loop-y.y) (ap (λ (n : ℕ). n % (size_of c.args.self.now).w) (zero-add x) ∙ mod-eq_of_lt hx)));
     }
 
-pub returns : goal.returns
-returns c =
+pub returns-clause-realised : goal.returns-clause-realised
+returns-clause-realised c =
     let height : c.size-size.result.h ≡ (size_of c.args.self.now).h = ap (λ (s : Size). s.h) c.size-size.ensures.size in
     let all : c.loop-y.y ≡ (size_of c.args.self.now).h = omega arith in
     filled_is_realised c.args.self.now c.args.format c.args.table.now c.loop-y.into c.loop-y.invariant.size
     (c.loop-y.invariant.count ∙ rw all (mul_comm _ _)) (rw all at c.loop-y.invariant.done)
+
+pub returns-clause-all : goal.returns-clause-all
+returns-clause-all c =
+    let height : c.size-size.result.h ≡ (size_of c.args.self.now).h = ap (λ (s : Size). s.h) c.size-size.ensures.size in
+    let all : c.loop-y.y ≡ (size_of c.args.self.now).h = omega arith in
+    rw c.loop-y.invariant.size (c.loop-y.invariant.count ∙ rw all (mul_comm _ _))

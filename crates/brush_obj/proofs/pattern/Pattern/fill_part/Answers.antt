@@ -1,4 +1,4 @@
-use Rattle.std.proofs.Common.{◌≡◌, ◌<◌, ◌+◌, ◌*◌, ◌%◌, ◌^◌, ◌∙◌, ℕ, length, ap, rules, arith}
+use Rattle.std.proofs.Common.{◌<◌, ◌+◌, ◌*◌, ◌%◌, ◌^◌, ◌∙◌, ℕ, ap, arith}
 use Rattle.pix_format.specs.Translate.{convert}
 use Rattle.pix_format.specs.Value.{bits_of}
 use Rattle.brush_obj.proofs.BrushLemmas.{item_round}
@@ -16,5 +16,5 @@ pub returns-clause-values : goal.returns-clause-values
 returns-clause-values c =
     let row = rw (← c.self.view_is) at c.requires.row in
     rw (← c.self.view_is) (λ k inside.
-      let taken = item_round c.self.inside.values.items c.self.inside.size.w c.self.inside.size.h c.args.x c.args.y k _ c.self.invariant.1.len c.self.invariant.0.0 row (rw c.deref.ensures.value at (c.copy_round.ensures k (omega arith))) in
-      c.convert_row.ensures.values k inside ∙ ap (λ (v : ℕ). convert c.self.inside.format c.self.inside.table c.args.format c.args.table.now c.self.inside.back v) taken.0)
+    let taken = item_round c.self.inside.values.items c.self.inside.size.w c.self.inside.size.h c.args.x c.args.y k _ c.self.invariant.1.len c.self.invariant.0.0 row (rw c.deref.ensures.value at (c.copy_round.ensures k (omega arith))) in
+    c.convert_row.ensures.values k inside ∙ ap (λ (v : ℕ). convert c.self.inside.format c.self.inside.table c.args.format c.args.table.now c.self.inside.back v) taken.0)

@@ -1,4 +1,4 @@
-use Rattle.std.proofs.Common.{◌≡◌, ◌<◌, ◌%◌, ◌*◌, ◌∙◌, ℕ, length, refl, rules, arith}
+use Rattle.std.proofs.Common.{◌≡◌, ◌%◌, ◌*◌, ◌∙◌, ℕ, length, refl, rules, arith}
 use Rattle.std.proofs.lemmas.List.{length-take}
 use Rattle.brush_obj.proofs.RowLemmas.{repeated_taken}
 use Rattle.brush_obj.proofs.BrushLemmas.{realised_after, realised_is_brush}
