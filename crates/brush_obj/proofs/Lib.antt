@@ -1,0 +1,5 @@
+pub mod RowLemmas
+pub mod WrapLemmas
+pub mod BrushLemmas
+pub mod SlotLemmas
+pub mod CallLemmas
