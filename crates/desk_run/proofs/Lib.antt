@@ -7,6 +7,7 @@ pub mod CarryLemmas
 pub mod HistoryLemmas
 pub mod CallLemmas
 pub mod PaintLemmas
+pub mod RunLemmas
 pub mod AskingLemmas
 pub mod ConfigLemmas
 pub mod DigitLemmas

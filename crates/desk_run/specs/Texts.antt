@@ -54,9 +54,13 @@ head_text q size format = codes "dump " ++ name_text q ++ codes " " ++ decimal s
 abbrev pub dump_text : Named → Surface → List ℕ
 dump_text q s = head_text q s.size s.format ++ rows_text (digits_of s.format) s.size.w s.size.h s.values
 
--- the sum of values: from 0 on, for each value 31 times the sum so far and the value, within 64 bits
+-- a sum with more values: for each value 31 times the sum so far and the value, within 64 bits
+abbrev pub sum_on : ℕ → List ℕ → ℕ
+sum_on sum values = fold (λ s v. (s * 31 + v) % 2 ^ 64) sum values
+
+-- the sum of values, from 0 on
 abbrev pub sum_of : List ℕ → ℕ
-sum_of values = fold (λ s v. (s * 31 + v) % 2 ^ 64) 0 values
+sum_of values = sum_on 0 values
 
 -- the line of a sum, with 16 digits
 abbrev pub sum_line_text : Named → ℕ → List ℕ

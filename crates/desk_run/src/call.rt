@@ -8,12 +8,13 @@ ghost use Rattle.pix_format.specs.Value.{digits_of};
 ghost use Rattle.desk_run.specs.Input.{checked, checked_of, IsScreenSize, IsKnown};
 ghost use Rattle.desk_run.specs.declared.status.Status.TheVariants as status;
 
+use crate::canvas::Canvas;
 use crate::input::{Input, InputError, read_input};
 use crate::run::{Ended, run_all};
-use crate::screen::Screen;
 use crate::status::{InputRefusal, Status};
 use crate::text::plain_line;
 use desk_io::{ReadRefusal, Sink, Source, read_all, write_all};
+use pix_format::Format;
 use std::alloc::{AllocError, Global};
 
 /// Whether the words are those of the form `run`.
@@ -37,13 +38,16 @@ fn say<K: Sink>(sink: &mut K, status: Status) -> Status
     status
 }
 
-/// A line for the rows of a screen.
-fn row_line(alloc: Global, screen: &Screen) -> Result<Vec<u8>, AllocError>
-    ensures { IfOk result (λ v. length v.items ≡ digits_of screen.now.format * screen.now.size.w + 1) }
+/// Room for the values of a row and for its text.
+fn row_room(alloc: Global, canvas: &Canvas) -> Result<(Vec<u32>, Vec<u8>), AllocError>
+    ensures values { IfOk result (λ room. length room.0.items ≡ canvas.now.size.w) }
+    ensures text { IfOk result (λ room. length room.1.items ≡ digits_of canvas.now.format * canvas.now.size.w + 1) }
 {
-    let digits = screen.format().digits();
-    let count = digits as usize * screen.size().w as usize + 1;
-    vec![in alloc; 0u8; count]
+    let width = canvas.size().w as usize;
+    let digits = canvas.format().digits() as usize;
+    let values = vec![in alloc; 0u32; width]?;
+    let text = vec![in alloc; 0u8; digits * width + 1]?;
+    Ok((values, text))
 }
 
 /// Runs what an input asks for.
@@ -53,13 +57,13 @@ fn run_input<K: Sink>(alloc: Global, input: &Input, sink: &mut K) -> Status
     requires few { length input.now.commands.items ≤ 100000 }
     ensures { Ends (Some (Ok (checked_of input.now))) (K.written sink.old) (K.written sink.new) (K.faults sink.old) (K.faults sink.new) result }
 {
-    let Ok(mut screen) = Screen::new(alloc, input.config.size) else {
+    let Ok(mut canvas) = Canvas::new(alloc, input.config.size, Format::B8) else {
         return Status::NoMemory;
     };
-    let Ok(mut line) = row_line(alloc, &screen) else {
+    let Ok((mut values, mut line)) = row_room(alloc, &canvas) else {
         return Status::NoMemory;
     };
-    match run_all(&mut screen, &input.commands, &mut line, sink) {
+    match run_all(&mut canvas, &input.commands, &mut values, &mut line, sink) {
         Ended::Done => Status::Done,
         Ended::WriteFault => Status::WriteFault,
     }

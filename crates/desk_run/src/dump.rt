@@ -5,8 +5,8 @@ ghost use Rattle.desk_io.specs.Sinks.{Puts};
 ghost use Rattle.pix_format.specs.Value.{digits_of};
 ghost use Rattle.desk_run.specs.Texts.{hex_digit, hex_digits, row_text, rows_text, dump_text};
 
+use crate::canvas::Canvas;
 use crate::command::Named;
-use crate::screen::Screen;
 use crate::text::head_line;
 use desk_io::{Sink, WriteFault, write_all};
 
@@ -46,18 +46,21 @@ fn put_row(line: &mut [u8], values: &[u32], digits: usize)
     line[digits * values.len()] = b'\n';
 }
 
-/// Writes the lines of the rows, each in one piece.
+/// Writes the lines of the rows, each in one piece. A row is read into `values` and written from `line`.
 fn put_rows<K: Sink>(
     sink: &mut K,
-    screen: &Screen,
+    canvas: &Canvas,
     digits: usize,
+    values: &mut [u32],
     line: &mut [u8],
 ) -> Result<(), WriteFault>
-    requires { length line.old ≡ digits * screen.now.size.w + 1 }
-    ensures { Puts (rows_text digits screen.now.size.w screen.now.size.h screen.now.values) (K.written sink.old) (K.written sink.new) (K.faults sink.old) (K.faults sink.new) (is_err result) }
+    requires places { length values.old ≡ canvas.now.size.w }
+    requires room { length line.old ≡ digits * canvas.now.size.w + 1 }
+    ensures { Puts (rows_text digits canvas.now.size.w canvas.now.size.h canvas.now.values) (K.written sink.old) (K.written sink.new) (K.faults sink.old) (K.faults sink.new) (is_err result) }
 {
-    for y in 0..screen.size().h {
-        put_row(line, screen.row(y), digits);
+    for y in 0..canvas.size().h {
+        canvas.read_row(y, values);
+        put_row(line, values, digits);
         if write_all(sink, line).is_err() {
             return Err(WriteFault);
         }
@@ -69,16 +72,18 @@ fn put_rows<K: Sink>(
 pub fn put_dump<K: Sink>(
     sink: &mut K,
     name: Named,
-    screen: &Screen,
+    canvas: &Canvas,
+    values: &mut [u32],
     line: &mut [u8],
 ) -> Result<(), WriteFault>
-    requires { length line.old ≡ digits_of screen.now.format * screen.now.size.w + 1 }
-    ensures { Puts (dump_text name screen.now) (K.written sink.old) (K.written sink.new) (K.faults sink.old) (K.faults sink.new) (is_err result) }
+    requires places { length values.old ≡ canvas.now.size.w }
+    requires room { length line.old ≡ digits_of canvas.now.format * canvas.now.size.w + 1 }
+    ensures { Puts (dump_text name canvas.now) (K.written sink.old) (K.written sink.new) (K.faults sink.old) (K.faults sink.new) (is_err result) }
 {
-    let format = screen.format();
-    let head = head_line(name, screen.size(), format);
+    let format = canvas.format();
+    let head = head_line(name, canvas.size(), format);
     if write_all(sink, head.as_slice()).is_err() {
         return Err(WriteFault);
     }
-    put_rows(sink, screen, format.digits() as usize, line)
+    put_rows(sink, canvas, format.digits() as usize, values, line)
 }

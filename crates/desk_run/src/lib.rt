@@ -5,12 +5,12 @@
 #![tactic(auto)]
 
 mod call;
+mod canvas;
 mod command;
 mod config;
 mod dump;
 mod input;
 mod run;
-mod screen;
 mod script;
 mod status;
 mod sum;

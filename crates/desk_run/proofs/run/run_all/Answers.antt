@@ -6,7 +6,7 @@ use Rattle.desk_run.proofs.HistoryLemmas.{nothing_done, so_far_more, stopped_in,
 use Rattle.desk_run.proofs.run.run_all.Goals as goal
 
 pub loop-i-init : goal.loop-i-init
-loop-i-init g c = record { room = c.requires.room; so_far = ([], nothing_done c.args.commands.now c.args.screen.now _ _) }
+loop-i-init g c = record { places = c.requires.places; room = c.requires.room; so_far = ([], nothing_done c.args.commands.now c.args.canvas.now _ _) }
 
 pub returns-then-is_err : goal.returns-then-is_err
 returns-then-is_err g c =
@@ -18,7 +18,8 @@ pub loop-i-preserved : goal.loop-i-preserved
 loop-i-preserved g c =
     let (h, so) = c.loop-i.invariant.so_far in
     record {
-      room = c.carry_out.auto.line ∙ c.loop-i.invariant.room ∙ sym (ap (λ (f : Format). digits_of f * c.carry_out.new.screen.size.w + 1) c.carry_out.ensures.format ∙ ap (λ w. digits_of c.loop-i.screen.format * w + 1) (ap (λ s. s.w) c.carry_out.ensures.size));
+      places = c.carry_out.auto.values ∙ c.loop-i.invariant.places ∙ sym (ap (λ s. s.w) c.carry_out.ensures.size);
+      room = c.carry_out.auto.line ∙ c.loop-i.invariant.room ∙ sym (ap (λ (f : Format). digits_of f * c.carry_out.new.canvas.size.w + 1) c.carry_out.ensures.format ∙ ap (λ w. digits_of c.loop-i.canvas.format * w + 1) (ap (λ s. s.w) c.carry_out.ensures.size));
       so_far = (
         h ++ whole_entry (command_at c.args.commands.now c.loop-i.i) ∷ [],
         so_far_more c.args.commands.now _ _ _ _ _ _ _ _ _ c.loop-i.i h (command_at c.args.commands.now c.loop-i.i) c.loop-i-test.true (command_is c.args.commands.now c.loop-i.i c.loop-i-test.true) so c.carry_out.ensures.shows

@@ -6,6 +6,7 @@ use Rattle.desk_run.proofs.run.run_all.Given as goal
 
 abbrev pub invariant-loop-i : goal.invariant-loop-i
 invariant-loop-i g l = record {
-  room : length l.line ≡ digits_of l.screen.format * l.screen.size.w + 1;
-  so_far : (h : List Entry) × SoFar l.commands l.fn.screen l.screen (g.K.Sink.written l.fn.sink) (g.K.Sink.written l.sink) (g.K.Sink.faults l.fn.sink) (g.K.Sink.faults l.sink) l.i h;
+  places : length l.values ≡ l.canvas.size.w;
+  room : length l.line ≡ digits_of l.canvas.format * l.canvas.size.w + 1;
+  so_far : (h : List Entry) × SoFar l.commands l.fn.canvas l.canvas (g.K.Sink.written l.fn.sink) (g.K.Sink.written l.sink) (g.K.Sink.faults l.fn.sink) (g.K.Sink.faults l.sink) l.i h;
 }
