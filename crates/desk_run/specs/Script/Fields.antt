@@ -11,8 +11,8 @@ use Rattle.desk_run.specs.declared.words.fault.Fault.{Fault}
 use Rattle.desk_run.specs.declared.words.fault.Fault.TheVariants.{UnknownCommand, Spelling, UnknownName, NameInUse, BadName}
 use Rattle.desk_run.specs.declared.script.kinds.Face.{Face}
 use Rattle.desk_run.specs.declared.script.kinds.Face.TheVariants.{Solid, Hatch as HatchOf}
-use Rattle.desk_run.specs.declared.script.kinds.Hatch.{Hatch}
-use Rattle.desk_run.specs.declared.script.kinds.Hatch.TheVariants.{Horizontal, Vertical, FDiagonal, BDiagonal, Cross, DiagCross}
+use Rattle.brush_obj.specs.declared.hatch.Hatch.{Hatch}
+use Rattle.brush_obj.specs.declared.hatch.Hatch.TheVariants.{Horizontal, Vertical, FDiagonal, BDiagonal, Cross, DiagCross}
 use Rattle.desk_run.specs.Words.Asking.{◌>>=◌, ask}
 use Rattle.desk_run.specs.Words.Spelling.{hex_of, number_in, count_in, is_new_name}
 use Rattle.desk_run.specs.Words.Lines.{word_at}

@@ -6,9 +6,10 @@ ghost use Rattle.desk_run.specs.Script.Names.{names_of};
 ghost use Rattle.desk_run.specs.Script.Fields.{rgb_of, colour_at, coordinate_at, rect_at, point_at, is_well_ordered, target_at, brush_at, solid_of, hatch_at, face_at, surface_at};
 
 use crate::command::Named;
-use crate::script::kinds::{Entry, Face, Hatch};
+use crate::script::kinds::{Entry, Face};
 use crate::script::names::Names;
 use crate::words::{Fault, count, hexadecimal, number, word};
+use brush_obj::Hatch;
 use geom_base::{Point, Rect};
 use pix_format::Rgb;
 

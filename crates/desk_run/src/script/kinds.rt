@@ -1,17 +1,7 @@
 //! What a name may stand for.
 
+use brush_obj::Hatch;
 use pix_format::Rgb;
-
-/// The lines of a hatch brush.
-#[derive(Clone, Copy, Debug, PartialEq, Eq)]
-pub enum Hatch {
-    Horizontal,
-    Vertical,
-    FDiagonal,
-    BDiagonal,
-    Cross,
-    DiagCross,
-}
 
 /// What a brush paints.
 #[derive(Clone, Copy, Debug, PartialEq, Eq)]

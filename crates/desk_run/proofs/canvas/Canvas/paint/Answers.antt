@@ -16,5 +16,5 @@ returns c =
     let part = c.part_of-part.result in
     let value = c.value_of-value.ensures.value ∙ ap (λ f. value_of f c.self.inside.table c.args.order.now.colour) c.format.ensures in
     let drawn : ◌≡◌ {A = Surface} (record { size = s.size; format = s.format; table = s.table; values = object_values new }) (changed (painted s c.args.order.now.colour) (reach_of c.args.order.now) s) =
-        painted_part s c.args.order.now.rect c.args.order.now.colour part.left part.top part.right part.bottom c.value_of-value.result (object_values new) (length-values_in (object_layout old) (object_bytes old)) value (λ x y hx hy. c.part_of-part.ensures.points x y (rw c.size.ensures hx) (rw c.size.ensures hy)) c.fill_part.ensures.values in
+    painted_part s c.args.order.now.rect c.args.order.now.colour part.left part.top part.right part.bottom c.value_of-value.result (object_values new) (length-values_in (object_layout old) (object_bytes old)) value (λ x y hx hy. c.part_of-part.ensures.points x y (rw c.size.ensures hx) (rw c.size.ensures hy)) c.fill_part.ensures.values in
     rw (← c.self.view_is) (same_form old new c.self.inside.table c.fill_part.ensures.only ∙ drawn)
