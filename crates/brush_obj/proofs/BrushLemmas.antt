@@ -16,7 +16,7 @@ use Rattle.brush_obj.specs.Realised.{Realised}
 use Rattle.brush_obj.specs.Wrapping.{wrapped}
 use Rattle.brush_obj.proofs.WrapLemmas.{column_after, wrapped-below}
 
--- the value of a pixel of a row, from the column of the square in which the row begins
+-- the value of a pixel of a row, from the column of the tile in which the row begins
 pub tile_after : (face : BrushFace) (format : Format) (table : List Rgb) (origin at : Point) (size : Size) (x y k : ℕ) → size ≡ size_of face → 1 ≤ size.w →
     x ≡ wrapped (at.x -ℤ origin.x) size.w → y ≡ wrapped (at.y -ℤ origin.y) size.h →
     tile_value face format table ((x + k % size.w) % (size_of face).w) y ≡ brush_value face format table origin (record { x = at.x +ℤ pos k; y = at.y })
@@ -46,7 +46,7 @@ realised_after xs size origin at x y k long some inside column row =
     let item = row_item xs size.w size.h y ((x + k % size.w) % size.w) long inside (mod_below (x + k % size.w) size.w some) in
     rw item.0 (item.1 ∙ rw (column_after at.x origin.x k size.w some, ← column, ← row) refl)
 
--- the value in the square that stands at a place of it
+-- the value in the tile that stands at a place of it
 wrapped-inside : (x size : ℕ) → x < size → wrapped (pos x -ℤ pos 0) size ≡ x
 wrapped-inside x size h = rw add-zero (mod-eq_of_lt h)
 
@@ -62,7 +62,7 @@ realised_is_brush face format table r origin p is wide high =
     let row : y < h = wrapped-below (p.y -ℤ origin.y) h (rw is.size at high) in
     rw (is.values, is.size) (get_or-grid_of w h (λ x y. brush_value face format table (point_at 0 0) (point_at x y)) x y column row ∙ rw (wrapped-inside x w column, wrapped-inside y h row) refl)
 
--- all rows of the square are the realised brush
+-- all rows of the tile are the realised brush
 pub filled_is_realised : (face : BrushFace) (format : Format) (table : List Rgb) (r : Realised) → r.size ≡ size_of face → length r.values ≡ (size_of face).w * (size_of face).h →
     ((x y : ℕ) → x < (size_of face).w → y < (size_of face).h → get_or r.values (y * (size_of face).w + x) 0 ≡ tile_value face format table x y) → IsRealised face format table r
 filled_is_realised face format table r size long each = record {

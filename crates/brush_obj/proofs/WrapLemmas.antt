@@ -20,7 +20,7 @@ raise (negsuc a) size h =
 pub wrapped-raised : (z : ℤ) (size times to : ℕ) → 0 < size → z +ℤ pos (times * size) ≡ pos to → wrapped z size ≡ to % size
 wrapped-raised z size times to h e = ap unsigned_abs (int_rem_euclid_is z (pos size) size times to h refl e)
 
--- a step to the right is a step to the right in the square, round to its first column
+-- a step to the right is a step to the right in the tile, round to its first column
 pub wrapped-after : (z : ℤ) (k size : ℕ) → 0 < size → wrapped (z +ℤ pos k) size ≡ (wrapped z size + k) % size
 wrapped-after z k size h =
     let r = raise z size h in

@@ -14,7 +14,7 @@ use Rattle.brush_obj.specs.Hatches.{in_hatch}
 use Rattle.brush_obj.specs.Realised.{Realised}
 use Rattle.brush_obj.specs.Wrapping.{wrapped}
 
--- the size of the square that a brush repeats: one pixel of a colour, eight by eight of a hatch, the pattern
+-- the size of the tile that a brush repeats: one pixel of a colour, eight by eight of a hatch, the pattern
 abbrev pub size_of : BrushFace → Size
 size_of (Solid colour) = record { w = 1; h = 1 }
 size_of (Hatch kind fore back) = record { w = 8; h = 8 }
@@ -26,7 +26,7 @@ is_solid (Solid colour) = true
 is_solid (Hatch kind fore back) = false
 is_solid (Pattern image) = false
 
--- The value at column x of row y of that square, on a surface of a format and a table: that of the colour; that of the fore colour
+-- The value at column x of row y of that tile, on a surface of a format and a table: that of the colour; that of the fore colour
 -- in the hatch and else that of the back colour; or the pattern's own value, converted.
 abbrev pub tile_value : BrushFace → Format → List Rgb → ℕ → ℕ → ℕ
 tile_value (Solid colour) format table x y = value_of format table colour
@@ -34,7 +34,7 @@ tile_value (Hatch kind fore back) format table x y = value_of format table (if i
 tile_value (Pattern image) format table x y =
     convert image.picture.format image.picture.table format table image.back (value_at image.picture.size image.picture.values x y)
 
--- the value at a point: the square repeats from the origin on in all directions
+-- the value at a point: the tile repeats from the origin on in all directions
 abbrev pub brush_value : BrushFace → Format → List Rgb → Point → Point → ℕ
 brush_value face format table origin p =
     tile_value face format table (wrapped (p.x -ℤ origin.x) (size_of face).w) (wrapped (p.y -ℤ origin.y) (size_of face).h)
@@ -49,6 +49,6 @@ pub record IsRealised (face : BrushFace) (format : Format) (table : List Rgb) (r
   pub size : r.size ≡ size_of face
   pub values : r.values ≡ realised_values face format table
 
--- the value of a realised brush that belongs to a point: its square repeats from the origin on
+-- the value of a realised brush that belongs to a point: its tile repeats from the origin on
 abbrev pub value_of_realised : Realised → Point → Point → ℕ
 value_of_realised r origin p = value_at r.size r.values (wrapped (p.x -ℤ origin.x) r.size.w) (wrapped (p.y -ℤ origin.y) r.size.h)

@@ -1,4 +1,4 @@
--- The points of the hatches, in squares of eight by eight.
+-- The points of the hatches, in tiles of eight by eight.
 use Rattle.std.specs.Prelude.{ℕ, Bool, ◌+◌, ◌==◌, ◌||◌}
 use Rattle.brush_obj.specs.declared.hatch.Hatch.{Hatch}
 use Rattle.brush_obj.specs.declared.hatch.Hatch.TheVariants.{Horizontal, Vertical, FDiagonal, BDiagonal, Cross, DiagCross}

@@ -1,4 +1,4 @@
--- A realised brush: the values of a brush's square on one kind of surface.
+-- A realised brush: the values of a brush's tile on one kind of surface.
 use Rattle.std.specs.Prelude.{ℕ, List, [], length, ◌≡◌, ◌≤◌, ◌*◌}
 use Rattle.geom_base.specs.declared.size.Size.{Size}
 

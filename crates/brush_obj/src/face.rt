@@ -26,7 +26,7 @@ impl BrushFace {
     ghost use Rattle.brush_obj.specs.Image.{HasPatternSides};
     ghost use Rattle.brush_obj.specs.Realised.{HasAllValues, IsReadyFor};
 
-    /// The size of the square that it repeats, which is that of the realised brush.
+    /// The size of the tile that it repeats, which is that of the realised brush.
     pub fn size(&self) -> Size
         ensures size { result ≡ size_of self.now }
         ensures sides { HasPatternSides result }
@@ -99,7 +99,7 @@ impl BrushFace {
         }
     }
 
-    /// A part of a row of the square: from column `x` of row `y` on, and round to the first column again.
+    /// A part of a row of the tile: from column `x` of row `y` on, and round to the first column again.
     fn fill_part(&self, format: Format, table: &ColourTable, x: u32, y: u32, out: &mut [u32])
         requires table { length table.now ≡ colours_of format }
         requires column { x < (size_of self.now).w }

@@ -3,7 +3,7 @@
 ghost use Rattle.std.specs.Prelude.{◌≡◌, ◌<◌};
 ghost use Rattle.brush_obj.specs.Hatches.{in_hatch};
 
-/// The lines of a hatch, in squares of eight by eight pixels.
+/// The lines of a hatch, in tiles of eight by eight pixels.
 #[derive(Clone, Copy, Debug, PartialEq, Eq)]
 pub enum Hatch {
     Horizontal,
@@ -17,7 +17,7 @@ pub enum Hatch {
 }
 
 impl Hatch {
-    /// Whether the pixel at column `x` of row `y` of a square is on a line.
+    /// Whether the pixel at column `x` of row `y` of a tile is on a line.
     pub(crate) fn has(self, x: u32, y: u32) -> bool
         requires column { x < 8 }
         requires row { y < 8 }

@@ -12,7 +12,7 @@ use geom_base::{Point, Size};
 use std::alloc::{AllocError, Global};
 use std::marker::Model;
 
-/// A realised brush: the values of the square that a brush repeats, row by row, on one kind of surface. It is made with
+/// A realised brush: the values of the tile that a brush repeats, row by row, on one kind of surface. It is made with
 /// room for all of them, and is filled by `put`.
 #[derive(Drop)]
 pub struct RBrush {

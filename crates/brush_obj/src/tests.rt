@@ -117,8 +117,8 @@ fn sides_of_patterns(rt: HostRuntime) -> Result<(), AllocError> {
     let high = Size { w: 1, h: 65 };
     let made = BrushObj::pattern(rt.alloc(), high, Format::B8, &table, &[0; 65], WHITE);
     assert_eq!(rt; refusal_of(made), Some(BrushRefusal::TooLarge(high)));
-    let square = Size { w: 64, h: 1 };
-    let made = BrushObj::pattern(rt.alloc(), square, Format::B8, &table, &[0; 64], WHITE);
+    let widest = Size { w: 64, h: 1 };
+    let made = BrushObj::pattern(rt.alloc(), widest, Format::B8, &table, &[0; 64], WHITE);
     assert_eq!(rt; refusal_of(made), None);
     Ok(())
 }

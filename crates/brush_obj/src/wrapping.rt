@@ -1,4 +1,4 @@
-//! Coordinates in a square that repeats.
+//! Coordinates in a tile that repeats.
 
 ghost use Rattle.std.specs.Prelude.{◌≡◌, ◌<◌, ◌≤◌, ◌*◌, ◌%◌, ◌-ℤ◌};
 ghost use Rattle.brush_obj.specs.Wrapping.{wrapped};
@@ -12,7 +12,7 @@ pub fn wrapped(at: i32, origin: i32, size: u32) -> u32
     (i64::from(at) - i64::from(origin)).rem_euclid(i64::from(size)) as u32
 }
 
-/// A place in a square of a size, from one that may be up to a whole size too far.
+/// A place in a tile of a size, from one that may be up to a whole size too far.
 pub fn turned(at: usize, size: usize) -> usize
     requires { at < 2 * size }
     ensures value { result ≡ at % size }
