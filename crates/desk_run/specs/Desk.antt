@@ -1,6 +1,5 @@
 -- The state of a desk, and one command on it.
-use Rattle.std.specs.Prelude.{◌≡◌, ℕ, ◌*◌, Bool, false, List, replicate, Option, Some, None, option_map, unwrap_or, ◌&&◌, nat_eq, if◌then◌else◌}
-use Rattle.geom_base.specs.declared.point.Point.{Point}
+use Rattle.std.specs.Prelude.{◌≡◌, ◌*◌, List, replicate, Option, Some, None, option_map, unwrap_or, ◌&&◌, nat_eq, if◌then◌else◌}
 use Rattle.geom_base.specs.declared.size.Size.{Size}
 use Rattle.geom_base.specs.Points.{is_in}
 use Rattle.pix_format.specs.declared.format.Format.{Format}

@@ -1,4 +1,4 @@
-use Rattle.std.proofs.Common.{◌≡◌, ◌*◌, ℕ, arith, length, []}
+use Rattle.std.proofs.Common.{◌≡◌, ◌*◌, arith, length, []}
 use Rattle.surf_obj.specs.declared.object.SurfObj.{SurfObj}
 use Rattle.surf_obj.specs.Object.{object_size, object_layout, object_bytes, object_values}
 use Rattle.surf_obj.proofs.LayoutLemmas.{length-values_in}
