@@ -5,11 +5,11 @@ use Rattle.geom_base.specs.declared.point.Point.{Point}
 use Rattle.geom_base.specs.declared.rect.Rect.{Rect}
 use Rattle.geom_base.specs.Points.{is_in}
 use Rattle.region.specs.declared.step.Step.{Step}
-use Rattle.region.specs.Steps.{value_at, IsCombined}
-use Rattle.region.specs.Region.{HasColumns}
-use Rattle.region.specs.Canonical.{Columns, Bands, has_column, has_point, IsCanonical, lists_of, AreBandsOf}
+use Rattle.region.specs.Steps.{value_at, AllValid, AllFit, IsCombined}
+use Rattle.region.specs.Region.{HasColumns, IsColumns}
+use Rattle.region.specs.Canonical.{Columns, Bands, has_column, has_point, IsCanonical, lists_of, IsBands, AreBandsOf}
 use Rattle.region.proofs.StepLemmas.{lt_is, ge_is}
-use Rattle.region.proofs.CanonicalLemmas.{no_columns, combined_canonical, value_of_lists}
+use Rattle.region.proofs.CanonicalLemmas.{no_columns, held_no_columns, held_values, combined_canonical, value_of_lists}
 
 abbrev pub rect_columns : Rect → Columns
 rect_columns r = record { from = r.left; value = true } ∷ record { from = r.right; value = false } ∷ []
@@ -43,15 +43,19 @@ rect_canonical r h k = record {
 }
 
 -- the bands of a rectangle
-pub rect_is_built : {V : Type 0} (columns : V → Columns) (r : Rect) (c : Columns) (bands : List (Step V)) → r.left <ℤ r.right → r.top <ℤ r.bottom → c ≡ rect_columns r → lists_of columns bands ≡ rect_bands r c → AreBandsOf columns (λ p. is_in p r) bands
-rect_is_built columns r c bands h k ec e =
+pub rect_is_built : {V : Type 0} (columns : V → Columns) (r : Rect) (c : Columns) (bands : List (Step V)) → r.left <ℤ r.right → r.top <ℤ r.bottom → c ≡ rect_columns r → AllFit c → lists_of columns bands ≡ rect_bands r c → AreBandsOf columns (λ p. is_in p r) bands
+rect_is_built columns r c bands h k ec fits e =
     let lists : rect_bands r (rect_columns r) ≡ lists_of columns bands = ap (rect_bands r) (sym ec) ∙ sym e in
-    record { canonical = subst IsCanonical lists (rect_canonical r h k); points = λ p. ap (λ b. has_point b p) (sym lists) ∙ rect_points r p h k }
+    let inner : IsColumns c = record { columns = subst HasColumns (sym ec) (rect_has_columns r h); fits = fits } in
+    record {
+      held = record { canonical = subst IsCanonical lists (rect_canonical r h k); values = held_values columns bands (subst (AllValid IsColumns) (sym e) (inner, (held_no_columns, tt))) };
+      points = λ p. ap (λ b. has_point b p) (sym lists) ∙ rect_points r p h k;
+    }
 
 -- no bands
 pub nothing_is_built : {V : Type 0} (columns : V → Columns) (set : Point → Bool) (bands : List (Step V)) → bands ≡ [] → ((p : Point) → set p ≡ false) → AreBandsOf columns set bands
 nothing_is_built columns set bands e none = record {
-  canonical = rw e (record { reduced = tt; values = tt; ends = refl });
+  held = rw e (record { canonical = record { reduced = tt; values = tt; ends = refl }; values = tt });
   points = λ p. ap (λ b. has_point (lists_of columns b) p) e ∙ sym (none p);
 }
 
@@ -63,16 +67,16 @@ no_height r h p = grind (arith, ints)
 
 -- bands of one set are bands of an equal one
 pub built_same : {V : Type 0} (columns : V → Columns) (f g : Point → Bool) (bands : List (Step V)) → ((p : Point) → f p ≡ g p) → AreBandsOf columns f bands → AreBandsOf columns g bands
-built_same columns f g bands same h = record { canonical = h.canonical; points = λ p. h.points p ∙ same p }
+built_same columns f g bands same h = record { held = h.held; points = λ p. h.points p ∙ same p }
 
 -- a sweep over canonical bands
-pub combined_is_built : {V : Type 0} (columns : V → Columns) (op : Bool → Bool → Bool) (e : V) (a b r : List (Step V)) → op false false ≡ false → columns e ≡ [] → IsCanonical (lists_of columns a) → IsCanonical (lists_of columns b) →
-    IsCombined (λ v x. has_column (columns v) x) (λ v. HasColumns (columns v)) op e a b r → AreBandsOf columns (λ p. op (has_point (lists_of columns a) p) (has_point (lists_of columns b) p)) r
+pub combined_is_built : {V : Type 0} (columns : V → Columns) (op : Bool → Bool → Bool) (e : V) (a b r : List (Step V)) → op false false ≡ false → columns e ≡ [] → IsBands columns a → IsBands columns b →
+    IsCombined (λ v x. has_column (columns v) x) (λ v. IsColumns (columns v)) op e a b r → AreBandsOf columns (λ p. op (has_point (lists_of columns a) p) (has_point (lists_of columns b) p)) r
 combined_is_built columns op e a b r off ee ha hb c =
     let point : (bands : List _) (p : Point) → has_point (lists_of columns bands) p ≡ has_column (columns (value_at e bands p.y)) p.x = λ bands p.
     ap (λ c. has_column c p.x) (ap (λ c. value_at c (lists_of columns bands) p.y) (sym ee) ∙ value_of_lists columns e bands p.y) in
     record {
-      canonical = combined_canonical columns op e a b r off ee ha hb c;
+      held = record { canonical = combined_canonical columns op e a b r off ee ha.canonical hb.canonical c; values = c.values };
       points = λ p. point r p ∙ c.points p.x p.y ∙ sym (rw (point a p, point b p) refl);
     }
 

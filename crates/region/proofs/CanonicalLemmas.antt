@@ -8,15 +8,18 @@ use Rattle.geom_base.specs.declared.rect.Rect.{Rect}
 use Rattle.geom_base.specs.Points.{is_in_some, AreApart}
 use Rattle.region.specs.declared.step.Step.{Step}
 use Rattle.region.specs.Steps.{value_at, final_value, BeginsAfter, IsOrdered, AllValid, IsReduced, IsCombined}
-use Rattle.region.specs.Region.{HasColumns}
+use Rattle.region.specs.Region.{HasColumns, IsColumns}
 use Rattle.region.specs.Rects.{row_rects, rects_of}
 use Rattle.region.specs.Canonical.{Columns, Bands, has_column, has_point, IsCanonical, IsRegion, IsRegionOf, RegionIsUnique, RegionIsApart, lists_of, IsListed}
-use Rattle.region.proofs.StepLemmas.{final_is_valid}
-use Rattle.region.proofs.UniqueLemmas.{reduced_is_ordered, same_steps, match_is_equal, same_columns}
+use Rattle.region.proofs.StepLemmas.{final_is_valid, reduced_is_ordered}
+use Rattle.region.proofs.UniqueLemmas.{same_steps, match_is_equal, same_columns}
 use Rattle.region.proofs.RectLemmas.{rects_points, rects_apart, all_pairs_apart}
 
 pub no_columns : HasColumns []
 no_columns = record { reduced = tt; ends = refl }
+
+pub held_no_columns : IsColumns []
+held_no_columns = record { columns = no_columns; fits = tt }
 
 -- the code's bands and the lists of their columns
 begins_after : {V : Type 0} (columns : V → Columns) (y : ℤ) (bands : List (Step V)) → BeginsAfter y bands → BeginsAfter y (lists_of columns bands)
@@ -31,13 +34,13 @@ pub ordered_back : {V : Type 0} (columns : V → Columns) (bands : List (Step V)
 ordered_back columns [] h = tt
 ordered_back columns (b ∷ bands) h = (begins_after_back columns b.from bands h.0, ordered_back columns bands h.1)
 
-pub values_of : {V : Type 0} (columns : V → Columns) (bands : List (Step V)) → AllValid (λ v. HasColumns (columns v)) bands → AllValid HasColumns (lists_of columns bands)
+pub values_of : {V : Type 0} (columns : V → Columns) (bands : List (Step V)) → AllValid (λ v. IsColumns (columns v)) bands → AllValid HasColumns (lists_of columns bands)
 values_of columns [] h = tt
-values_of columns (b ∷ bands) h = (h.0, values_of columns bands h.1)
+values_of columns (b ∷ bands) h = (h.0.columns, values_of columns bands h.1)
 
-pub values_back : {V : Type 0} (columns : V → Columns) (bands : List (Step V)) → AllValid HasColumns (lists_of columns bands) → AllValid (λ v. HasColumns (columns v)) bands
-values_back columns [] h = tt
-values_back columns (b ∷ bands) h = (h.0, values_back columns bands h.1)
+pub held_values : {V : Type 0} (columns : V → Columns) (bands : List (Step V)) → AllValid IsColumns (lists_of columns bands) → AllValid (λ v. IsColumns (columns v)) bands
+held_values columns [] h = tt
+held_values columns (b ∷ bands) h = (h.0, held_values columns bands h.1)
 
 pub reduced_of : {V : Type 0} (columns : V → Columns) (v : V) (bands : List (Step V)) → IsReduced (λ v x. has_column (columns v) x) v bands → IsReduced has_column (columns v) (lists_of columns bands)
 reduced_of columns v [] h = tt
@@ -91,14 +94,14 @@ region_is_apart rects h = subst (AllPairs AreApart) (sym h.listed) (bands_are_ap
 -- what a region keeps
 
 pub listed_is_region : {V : Type 0} (columns : V → Columns) (bands : List (Step V)) (rects : List Rect) → IsListed columns bands rects → IsRegion rects
-listed_is_region columns bands rects h = record { bands = lists_of columns bands; canonical = h.canonical; listed = h.listed ∙ sym (rects_of_lists columns bands) }
+listed_is_region columns bands rects h = record { bands = lists_of columns bands; canonical = h.held.canonical; listed = h.listed ∙ sym (rects_of_lists columns bands) }
 
 pub listed_points : {V : Type 0} (columns : V → Columns) (bands : List (Step V)) (rects : List Rect) → IsListed columns bands rects → (p : Point) → is_in_some p rects ≡ has_point (lists_of columns bands) p
-listed_points columns bands rects h p = ap (is_in_some p) (h.listed ∙ sym (rects_of_lists columns bands)) ∙ canonical_points (lists_of columns bands) h.canonical p
+listed_points columns bands rects h p = ap (is_in_some p) (h.listed ∙ sym (rects_of_lists columns bands)) ∙ canonical_points (lists_of columns bands) h.held.canonical p
 
 -- a sweep over two canonical lists gives a third
 pub combined_canonical : {V : Type 0} (columns : V → Columns) (op : Bool → Bool → Bool) (e : V) (a b r : List (Step V)) → op false false ≡ false → columns e ≡ [] → IsCanonical (lists_of columns a) → IsCanonical (lists_of columns b) →
-    IsCombined (λ v x. has_column (columns v) x) (λ v. HasColumns (columns v)) op e a b r → IsCanonical (lists_of columns r)
+    IsCombined (λ v x. has_column (columns v) x) (λ v. IsColumns (columns v)) op e a b r → IsCanonical (lists_of columns r)
 combined_canonical columns op e a b r off ee ha hb c =
     let none : (bands : List _) → IsCanonical (lists_of columns bands) → (x : ℤ) → has_column (columns (final_value e bands)) x ≡ false = λ bands h x.
     ap (λ c. has_column c x) (sym (final_of_lists columns e bands) ∙ ap (λ c. final_value c (lists_of columns bands)) ee) ∙ none_at_end (lists_of columns bands) h x in
@@ -107,7 +110,7 @@ combined_canonical columns op e a b r off ee ha hb c =
     record {
       reduced = subst (λ u. IsReduced has_column u (lists_of columns r)) ee (reduced_of columns e r c.reduced);
       values = values;
-      ends = ap (λ u. final_value u (lists_of columns r)) (sym ee) ∙ final ∙ same_columns (columns (final_value e r)) [] (final_is_valid (λ v. HasColumns (columns v)) e r (subst HasColumns (sym ee) no_columns) c.values) no_columns
+      ends = ap (λ u. final_value u (lists_of columns r)) (sym ee) ∙ final ∙ same_columns (columns (final_value e r)) [] (final_is_valid (λ v. IsColumns (columns v)) e r (subst IsColumns (sym ee) held_no_columns) c.values).columns no_columns
           (λ x. c.final x ∙ rw (none a ha x, none b hb x) off);
     }
 

@@ -10,7 +10,7 @@ use Rattle.region.specs.Region.{column, HasColumns}
 use Rattle.region.specs.Rects.{span_rects, row_rects, rects_of}
 use Rattle.region.specs.Canonical.{Bands, IsCanonical}
 use Rattle.region.specs.Order.{ComesFirst, HasPoints, IsInOrder, RegionIsInOrder}
-use Rattle.region.proofs.UniqueLemmas.{reduced_is_ordered}
+use Rattle.region.proofs.StepLemmas.{reduced_is_ordered}
 use Rattle.region.proofs.CanonicalLemmas.{canonical_is_ordered}
 
 -- in a band, from a column on

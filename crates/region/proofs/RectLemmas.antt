@@ -12,7 +12,7 @@ use Rattle.region.specs.declared.step.Step.{Step}
 use Rattle.region.specs.Steps.{value_at, final_value, IsOrdered, AllValid}
 use Rattle.region.specs.Region.{column, HasColumns}
 use Rattle.region.specs.Rects.{row_rects, rects_of}
-use Rattle.region.proofs.UniqueLemmas.{reduced_is_ordered}
+use Rattle.region.proofs.StepLemmas.{reduced_is_ordered}
 
 -- a row lies in a band
 abbrev pub in_rows : ℤ → ℤ → ℤ → Bool

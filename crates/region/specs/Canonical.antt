@@ -1,12 +1,13 @@
 -- The canonical list of rectangles of a set of points.
-use Rattle.std.specs.Prelude.{◌≡◌, ◌≤◌, ℤ, length, List, [], ◌∷◌, Bool, false}
+use Rattle.std.specs.Prelude.{◌≡◌, ◌≤◌, ℤ, length, List, [], ◌∷◌, Bool, false, Vec}
+use Rattle.std.specs.Global.{Global}
 use Rattle.std.specs.List.{AllPairs}
 use Rattle.geom_base.specs.declared.point.Point.{Point}
 use Rattle.geom_base.specs.declared.rect.Rect.{Rect}
 use Rattle.geom_base.specs.Points.{is_in_some, AreApart}
 use Rattle.region.specs.declared.step.Step.{Step}
 use Rattle.region.specs.Steps.{value_at, final_value, AllValid, IsReduced}
-use Rattle.region.specs.Region.{HasColumns}
+use Rattle.region.specs.Region.{HasColumns, IsColumns}
 use Rattle.region.specs.Rects.{rects_of}
 
 abbrev pub Columns : Type 0
@@ -52,13 +53,22 @@ abbrev pub lists_of : {V : Type 0} → (V → Columns) → List (Step V) → Ban
 lists_of columns [] = []
 lists_of columns (b ∷ bands) = record { from = b.from; value = columns b.value } ∷ lists_of columns bands
 
+-- bands as code holds them
+abbrev pub HeldBands : Type 0
+HeldBands = List (Step (Vec (Step Bool) Global))
+
+-- canonical bands as code holds them
+pub record IsBands {V : Type 0} (columns : V → Columns) (bands : List (Step V)) : Type 0 where
+  pub canonical : IsCanonical (lists_of columns bands)
+  pub values : AllValid (λ v. IsColumns (columns v)) bands
+
 -- these are the rectangles of the bands, and not too many
 pub record IsListed {V : Type 0} (columns : V → Columns) (bands : List (Step V)) (rects : List Rect) : Type 0 where
-  pub canonical : IsCanonical (lists_of columns bands)
+  pub held : IsBands columns bands
   pub listed : rects ≡ rects_of columns bands
   pub few : length rects ≤ 4096
 
 -- canonical bands of a set
 pub record AreBandsOf {V : Type 0} (columns : V → Columns) (set : Point → Bool) (bands : List (Step V)) : Type 0 where
-  pub canonical : IsCanonical (lists_of columns bands)
+  pub held : IsBands columns bands
   pub points : (p : Point) → has_point (lists_of columns bands) p ≡ set p

@@ -3,12 +3,14 @@
 ghost use Rattle.std.specs.Prelude.{◌≡◌, ◌≤◌, ◌↔◌, [], ◌||◌, ◌&&◌, not, Bool, length, IfOk, MatchResult, IsTrue, ℤ, if◌then◌else◌};
 ghost use Rattle.std.specs.List.{All, AllPairs};
 ghost use Rattle.geom_base.specs.Points.{is_in, is_in_some, AreApart};
+ghost use Rattle.region.specs.BandList.{IsKept};
 ghost use Rattle.region.specs.Moved.{CanMove, moved_back};
 ghost use Rattle.region.specs.Operation.{holds_after};
-ghost use Rattle.region.specs.Canonical.{IsRegion, RegionIsUnique, IsRegionOf, IsCanonical, lists_of, has_point};
+ghost use Rattle.region.specs.Canonical.{HeldBands, IsRegion, RegionIsUnique, IsRegionOf, IsBands, lists_of, has_point};
 ghost use Rattle.region.specs.Order.{IsInOrder, RegionIsInOrder};
 ghost use Rattle.region.specs.Refusal.{IsAnswer};
 
+use crate::band_list::BandList;
 use crate::build::{bands_of_rect, bands_of_rects, combined_bands};
 use crate::moves::{any_holds, moved_rects};
 use crate::operation::Operation;
@@ -40,7 +42,7 @@ impl Model for Region {
 
 /// The region of bands.
 fn region_of_bands(alloc: Global, bands: Vec<Band>) -> Result<Region, RegionRefusal>
-    requires { IsCanonical (lists_of (λ v. v.items) bands.items) }
+    requires { IsBands (λ v. v.items) bands.items }
     ensures { IsAnswer (has_point (lists_of (λ v. v.items) bands.items)) result }
 {
     let rects = rects_of_bands(alloc, &bands)?;
@@ -48,6 +50,21 @@ fn region_of_bands(alloc: Global, bands: Vec<Band>) -> Result<Region, RegionRefu
         return Err(RegionRefusal::TooMany(rects.len() as u64));
     }
     Ok(Region { bands, rects })
+}
+
+/// The region of counted bands.
+fn region_of_list(alloc: Global, list: BandList) -> Result<Region, RegionRefusal>
+    requires { (bands : HeldBands) × IsKept (λ v. v.items) bands list.bands.items list.count × IsBands (λ v. v.items) bands }
+    ensures { (bands : HeldBands) → IsKept (λ v. v.items) bands list.bands.items list.count → IsBands (λ v. v.items) bands → IsAnswer (has_point (lists_of (λ v. v.items) bands)) result }
+{
+    if list.count > 4096 {
+        return Err(RegionRefusal::TooMany(list.count));
+    }
+    let rects = rects_of_bands(alloc, &list.bands)?;
+    Ok(Region {
+        bands: list.bands,
+        rects,
+    })
 }
 
 impl Region {
@@ -78,8 +95,14 @@ impl Region {
     ) -> Result<Region, RegionRefusal>
         ensures { IsAnswer (λ p. holds_after operation (is_in_some p self.now) (is_in_some p other.now)) result }
     {
-        let bands = combined_bands(alloc, operation, &self.bands, &other.bands)?;
-        region_of_bands(alloc, bands)
+        let bands = combined_bands(
+            alloc,
+            operation,
+            &self.bands,
+            &other.bands,
+            BandList::new(alloc),
+        )?;
+        region_of_list(alloc, bands)
     }
 
     /// Whether the point is in the set.
@@ -103,7 +126,13 @@ impl Region {
         ensures { IfOk result (λ r. IsRegionOf (λ p. is_in_some p self.now && is_in p bounds.now) r.items) }
     {
         let frame = bands_of_rect(alloc, bounds)?;
-        let bands = combined_bands(alloc, Operation::Intersect, &self.bands, &frame)?;
+        let bands = combined_bands(
+            alloc,
+            Operation::Intersect,
+            &self.bands,
+            &frame,
+            Vec::new(alloc),
+        )?;
         rects_of_bands(alloc, &bands)
     }
 
