@@ -1,0 +1,19 @@
+-- Rectangles and points moved.
+use Rattle.std.specs.Prelude.{◌+ℤ◌, ◌-ℤ◌, FitsSigned}
+use Rattle.std.specs.Int.{w32}
+use Rattle.geom_base.specs.declared.point.Point.{Point}
+use Rattle.geom_base.specs.declared.rect.Rect.{Rect}
+
+-- the moved edges are numbers that a rectangle can have
+pub record CanMove (by : Point) (r : Rect) : Type 0 where
+  pub left : FitsSigned w32 (r.left +ℤ by.x)
+  pub top : FitsSigned w32 (r.top +ℤ by.y)
+  pub right : FitsSigned w32 (r.right +ℤ by.x)
+  pub bottom : FitsSigned w32 (r.bottom +ℤ by.y)
+
+abbrev pub moved_rect : Point → Rect → Rect
+moved_rect by r = record { left = r.left +ℤ by.x; top = r.top +ℤ by.y; right = r.right +ℤ by.x; bottom = r.bottom +ℤ by.y }
+
+-- where a point was before
+abbrev pub moved_back : Point → Point → Point
+moved_back by p = record { x = p.x -ℤ by.x; y = p.y -ℤ by.y }

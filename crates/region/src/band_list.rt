@@ -1,0 +1,65 @@
+//! Bands from top to bottom, and the number of their rectangles.
+
+ghost use Rattle.std.specs.Prelude.{◌≡◌, ◌<◌, ◌≤◌, ◌+◌, ◌/◌, ◌^◌, ◌∷◌, ◌++◌, [], OnOk, nat_lt};
+ghost use Rattle.region.specs.Steps.{final_value, CanPush};
+ghost use Rattle.region.specs.Region.{IsColumns};
+ghost use Rattle.region.specs.Canonical.{HeldBands};
+ghost use Rattle.region.specs.BandList.{IsKept};
+
+use crate::rects::Band;
+use crate::step::Step;
+use crate::sweep::{Output, last_value};
+use std::alloc::{AllocError, Global};
+
+/// The most rectangles of a region.
+const MOST_RECTANGLES: u64 = 4096;
+
+/// Bands from top to bottom, with the number of their rectangles; past the limit only the last band is kept.
+#[derive(Drop)]
+pub struct BandList {
+    pub bands: Vec<Band>,
+    pub count: u64,
+}
+
+impl BandList {
+    /// No bands.
+    pub fn new(alloc: Global) -> BandList
+        ensures bands { result.bands.items ≡ [] }
+        ensures count { result.count ≡ 0 }
+    {
+        BandList {
+            bands: Vec::new(alloc),
+            count: 0,
+        }
+    }
+
+    /// Whether this and so many rectangles more are too many.
+    pub fn is_past(&self, more: u64) -> bool
+        requires { self.now.count + more < 2 ^ 64 }
+        ensures { result ≡ nat_lt 4096 (self.now.count + more) }
+    {
+        self.count + more > MOST_RECTANGLES
+    }
+}
+
+impl Output<Vec<Step<bool>>> for BandList {
+    ghost has = { λ list bands. IsKept (λ v. v.items) bands list.bands.items list.count };
+
+    fn last<'a>(&'a self, empty: &'a Vec<Step<bool>>) -> &'a Vec<Step<bool>>
+        ensures { (bands : HeldBands) → IsKept (λ v. v.items) bands self.now.bands.items self.now.count → result.now ≡ final_value empty.now bands }
+    {
+        last_value(&self.bands, empty)
+    }
+
+    fn push(&mut self, step: Band) -> Result<(), AllocError>
+        requires { (bands : HeldBands) × IsKept (λ v. v.items) bands self.old.bands.items self.old.count × CanPush (λ v. IsColumns v.items) bands step }
+        ensures { OnOk result ((bands : HeldBands) → IsKept (λ v. v.items) bands self.old.bands.items self.old.count → CanPush (λ v. IsColumns v.items) bands step → IsKept (λ v. v.items) (bands ++ step ∷ []) self.new.bands.items self.new.count) }
+    {
+        self.count += step.value.len() as u64 / 2;
+        if self.count > MOST_RECTANGLES {
+            self.bands.clear();
+        }
+        self.bands.push(step)?;
+        Ok(())
+    }
+}
