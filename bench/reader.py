@@ -1,15 +1,12 @@
 #!/usr/bin/env python3
 """How fast a script is read: 100,000 commands and as many names as there are forms for, in 16 MiB.
 
-    bench/reader.py [--gdi PATH] [--runs N]
+    bench/reader.py [--program PATH] [--runs N]
 
 Prints the least time of some runs, and the speed over the bytes of the input. An empty script on the same
 configuration is the time of a start.
 """
-import argparse
-from pathlib import Path
-
-from timing import least
+from timing import GDI, least, options
 
 CONFIG = '[[screen]]\nkind = "linear"\nx = 0\ny = 0\nwidth = 1\nheight = 1\nformat = "8"\n%%\n'
 BYTES = 16_777_216
@@ -26,14 +23,10 @@ def script():
 
 
 def main():
-    parser = argparse.ArgumentParser()
-    parser.add_argument("--gdi", type=Path, default=Path("crates/gdi_tool/out/gdi_tool"))
-    parser.add_argument("--runs", type=int, default=7)
-    asked = parser.parse_args()
-    gdi = asked.gdi.resolve()
+    gdi, runs = options(GDI, 7)
     data = script()
-    start = least(gdi, CONFIG.encode(), asked.runs)
-    whole = least(gdi, data, asked.runs)
+    start = least([gdi, "run"], CONFIG.encode(), runs)
+    whole = least([gdi, "run"], data, runs)
     print(f"start      {start * 1000:8.1f} ms")
     print(f"100,000 commands in {len(data)} bytes {whole * 1000:8.1f} ms {len(data) / (whole - start) / 1e6:8.0f} MB/s")
 

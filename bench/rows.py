@@ -6,10 +6,9 @@
 Each is the difference of two runs of the program `row_bench` with other counts, in Mpixel/s of rows of 1,024.
 `both` is a row read and written back, `xlate` a row read and translated.
 """
-import argparse
-import subprocess
-import time
 from pathlib import Path
+
+from timing import least, options
 
 WIDTH = 1024
 NAMES = (["rop-66", "rop-b8", "rop-1e"]
@@ -17,24 +16,15 @@ NAMES = (["rop-66", "rop-b8", "rop-1e"]
          + ["xlate-8-32", "xlate-565-32", "xlate-24-32", "xlate-32-565", "xlate-32-8"])
 
 
-def least(program, name, count, runs):
-    times = []
-    for _ in range(runs):
-        start = time.perf_counter()
-        subprocess.run([program, name, str(count)], stdout=subprocess.DEVNULL, check=True)
-        times.append(time.perf_counter() - start)
-    return min(times)
+def times(program, name, count, runs):
+    return least([program, name, str(count)], b"", runs)
 
 
 def main():
-    parser = argparse.ArgumentParser()
-    parser.add_argument("--program", type=Path, default=Path("crates/row_bench/out/row_bench"))
-    parser.add_argument("--runs", type=int, default=5)
-    asked = parser.parse_args()
-    program = asked.program.resolve()
+    program, runs = options(Path("crates/row_bench/out/row_bench"), 5)
     few, many = 1_000, 101_000
     for name in NAMES:
-        spent = (least(program, name, many, asked.runs) - least(program, name, few, asked.runs)) / (many - few)
+        spent = (times(program, name, many, runs) - times(program, name, few, runs)) / (many - few)
         print(f"{name:14} {spent * 1e9:9.0f} ns a row {WIDTH / spent / 1e6:9.0f} Mpixel/s")
 
 

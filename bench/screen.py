@@ -1,27 +1,20 @@
 #!/usr/bin/env python3
 """How fast the screen is painted and dumped: the difference of two runs with other counts of the same command.
 
-    bench/screen.py [--gdi PATH] [--runs N]
+    bench/screen.py [--program PATH] [--runs N]
 """
-import argparse
-from pathlib import Path
-
-from timing import least
+from timing import GDI, least, options
 
 WIDTH, HEIGHT = 1024, 768
 CONFIG = f'[[screen]]\nkind = "linear"\nx = 0\ny = 0\nwidth = {WIDTH}\nheight = {HEIGHT}\nformat = "8"\n%%\n'
 
 
 def times(gdi, line, count, runs):
-    return least(gdi, (CONFIG + (line + "\n") * count).encode(), runs)
+    return least([gdi, "run"], (CONFIG + (line + "\n") * count).encode(), runs)
 
 
 def main():
-    parser = argparse.ArgumentParser()
-    parser.add_argument("--gdi", type=Path, default=Path("crates/gdi_tool/out/gdi_tool"))
-    parser.add_argument("--runs", type=int, default=7)
-    asked = parser.parse_args()
-    gdi = asked.gdi.resolve()
+    gdi, runs = options(GDI, 7)
     pixels = WIDTH * HEIGHT
     for name, line, few, many in [
         ("solid paint", f"paint screen 0 0 {WIDTH} {HEIGHT} #FF0000 13", 10, 410),
@@ -29,7 +22,7 @@ def main():
         ("sum", "sum 0", 10, 210),
         ("dump", "dump 0", 10, 110),
     ]:
-        spent = (times(gdi, line, many, asked.runs) - times(gdi, line, few, asked.runs)) / (many - few)
+        spent = (times(gdi, line, many, runs) - times(gdi, line, few, runs)) / (many - few)
         area = 256 if "16 by 16" in name else pixels
         print(f"{name:26} {spent * 1e6:10.2f} us {area / spent / 1e6:10.0f} Mpixel/s")
 

@@ -1,13 +1,26 @@
-"""Times of the built program."""
+"""What the benchmarks share: their options, and the times of a program."""
+import argparse
 import subprocess
 import time
+from pathlib import Path
+
+GDI = Path("crates/gdi_tool/out/gdi_tool")
 
 
-def least(gdi, data, runs):
-    """The least time in seconds of some runs on an input."""
+def options(program, runs):
+    """The program to be measured, its path made whole, and how often a time is taken."""
+    parser = argparse.ArgumentParser()
+    parser.add_argument("--program", type=Path, default=program)
+    parser.add_argument("--runs", type=int, default=runs)
+    asked = parser.parse_args()
+    return asked.program.resolve(), asked.runs
+
+
+def least(words, data, runs):
+    """The least time in seconds of some runs of a program and its words on an input."""
     times = []
     for _ in range(runs):
         start = time.perf_counter()
-        subprocess.run([gdi, "run"], input=data, stdout=subprocess.DEVNULL, check=True)
+        subprocess.run(words, input=data, stdout=subprocess.DEVNULL, check=True)
         times.append(time.perf_counter() - start)
     return min(times)
