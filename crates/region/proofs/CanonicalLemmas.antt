@@ -120,6 +120,10 @@ bands_region columns bands rects h e = record {
   points = λ p. ap (is_in_some p) (e ∙ sym (rects_of_lists columns bands)) ∙ canonical_points (lists_of columns bands) h p;
 }
 
+-- the region of canonical bands
+pub region_of_canonical : (bands : Bands) → IsCanonical bands → IsRegionOf (has_point bands) (rects_of (λ c. c) bands)
+region_of_canonical bands h = record { canonical = record { bands = bands; canonical = h; listed = refl }; points = λ p. canonical_points bands h p }
+
 pub region_same : (f g : Point → Bool) → ((p : Point) → f p ≡ g p) → (rects : List Rect) → IsRegionOf f rects → IsRegionOf g rects
 region_same f g same rects h = record { canonical = h.canonical; points = λ p. h.points p ∙ same p }
 

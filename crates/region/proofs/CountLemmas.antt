@@ -1,13 +1,14 @@
-use Rattle.std.proofs.Common.{◌≡◌, ◌∙◌, ℕ, ℤ, ◌+◌, ◌*◌, ◌/◌, ◌^◌, ◌<◌, ◌≤◌, ◌≤ℤ◌, ◌-ℤ◌, pos, List, [], ◌∷◌, ◌++◌, length, Bool, true, false, refl, ap, sym, arith, if◌then◌else◌, length-append, suc}
+use Rattle.std.proofs.Common.{◌≡◌, ◌∙◌, ℕ, ℤ, ◌+◌, ◌*◌, ◌/◌, ◌^◌, ◌<◌, ◌≤◌, ◌≤ℤ◌, ◌-ℤ◌, pos, List, [], ◌∷◌, ◌++◌, length, Bool, true, false, refl, ap, sym, subst, arith, if◌then◌else◌, length-append, suc}
 use Rattle.std.proofs.lemmas.Int.{ints}
+use Rattle.geom_base.specs.declared.rect.Rect.{Rect}
 use Rattle.region.specs.declared.step.Step.{Step}
 use Rattle.region.specs.Steps.{final_value, IsOrdered, AllValid, AllFit, IsReduced, CanPush}
 use Rattle.region.specs.Region.{column, HasColumns, IsColumns}
 use Rattle.region.specs.Rects.{span_rects, row_rects, rects_of}
-use Rattle.region.specs.Canonical.{Columns, Bands, IsCanonical, lists_of, IsBands}
-use Rattle.region.specs.BandList.{run_count, rect_count, IsKept}
+use Rattle.region.specs.Canonical.{Columns, Bands, IsCanonical, lists_of, IsBands, IsListed}
+use Rattle.region.specs.BandList.{run_count, rect_count, IsKept, IsCounted, AreCanonical}
 use Rattle.region.proofs.StepLemmas.{reduced_is_ordered, final_value-push}
-use Rattle.region.proofs.CanonicalLemmas.{rects_of_lists}
+use Rattle.region.proofs.CanonicalLemmas.{rects_of_lists, held_values}
 
 abbrev pub flag : Bool → ℕ
 flag b = if b then 1 else 0
@@ -121,5 +122,47 @@ kept_alone columns bands kept more count total b t k p many e = record {
   all = λ few. absurd (omega (arith, few, many));
 }
 
-pub held_count : {V : Type 0} (columns : V → List (Step Bool)) (bands : List (Step V)) → IsBands columns bands → length (rects_of columns bands) ≡ rect_count columns bands
-held_count columns bands h = ap length (sym (rects_of_lists columns bands)) ∙ rects_are_counted (lists_of columns bands) h.canonical ∙ count_of_lists columns bands
+-- bands counted as lists
+
+lists-push : {V : Type 0} (columns : V → Columns) (bands : List (Step V)) (b : Step V) → lists_of columns (bands ++ b ∷ []) ≡ lists_of columns bands ++ record { from = b.from; value = columns b.value } ∷ []
+lists-push columns [] b = refl
+lists-push columns (c ∷ bands) b = ap (λ u. record { from = c.from; value = columns c.value } ∷ u) (lists-push columns bands b)
+
+pub counted_skip : {V : Type 0} (columns : V → Columns) (bands : Bands) (kept more : List (Step V)) (count runs total : ℕ) (b : Step Columns) → IsCounted columns bands kept count → runs ≡ run_count b.value → total ≡ count + runs → 4096 < total →
+    IsCounted columns (bands ++ b ∷ []) more total
+counted_skip columns bands kept more count runs total b k r t many = record {
+  number = let m = rect_count-push (λ c. c) bands b in omega (arith, m, r, t, k.number);
+  all = λ few. absurd (omega (arith, few, many));
+}
+
+pub counted_keep : {V : Type 0} (columns : V → Columns) (bands : Bands) (kept more : List (Step V)) (count runs total : ℕ) (place : ℤ) (value : V) (list : Columns) → IsCounted columns bands kept count → runs ≡ run_count list → total ≡ count + runs →
+    more ≡ kept ++ record { from = place; value = value } ∷ [] → columns value ≡ list → IsCounted columns (bands ++ record { from = place; value = list } ∷ []) more total
+counted_keep columns bands kept more count runs total place value list k r t e l =
+    let b : Step Columns = record { from = place; value = list } in
+    record {
+      number = let m = rect_count-push (λ c. c) bands b in omega (arith, m, r, t, k.number);
+      all = λ few. ap (lists_of columns) e ∙ lists-push columns kept (record { from = place; value = value }) ∙ ap (λ u. u ++ record { from = place; value = columns value } ∷ []) (k.all (omega (arith, few, t)))
+          ∙ ap (λ u. bands ++ record { from = place; value = u } ∷ []) l;
+    }
+
+-- what was counted while a sweep put it somewhere
+pub kept_is_counted : {V : Type 0} (columns : V → Columns) (bands kept : List (Step V)) (count : ℕ) → IsKept columns bands kept count → IsCounted columns (lists_of columns bands) kept count
+kept_is_counted columns bands kept count k = record { number = k.number ∙ sym (count_of_lists columns bands); all = λ few. ap (lists_of columns) (k.all few) }
+
+list_values : {V : Type 0} (columns : V → Columns) (bands : List (Step V)) → AllValid (λ v. IsColumns (columns v)) bands → AllValid IsColumns (lists_of columns bands)
+list_values columns [] h = tt
+list_values columns (b ∷ bands) h = (h.0, list_values columns bands h.1)
+
+-- counted bands that are few are listed
+pub counted_is_listed : {V : Type 0} (columns : V → Columns) (bands : Bands) (kept : List (Step V)) (count : ℕ) (rects : List Rect) → AreCanonical bands → IsCounted columns bands kept count → count ≤ 4096 → rects ≡ rects_of columns kept → IsListed columns kept rects
+counted_is_listed columns bands kept count rects h k few e =
+    let same = k.all few in
+    record {
+      held = record { canonical = subst IsCanonical (sym same) h.canonical; values = held_values columns kept (subst (AllValid IsColumns) (sym same) h.values) };
+      listed = e;
+      few = subst (λ n. n ≤ 4096) (k.number ∙ sym (rects_are_counted bands h.canonical) ∙ ap (λ b. length (rects_of (λ c. c) b)) (sym same) ∙ ap length (rects_of_lists columns kept ∙ sym e)) few;
+    }
+
+-- canonical bands as code holds them
+pub held_are_canonical : {V : Type 0} (columns : V → Columns) (bands : List (Step V)) → IsBands columns bands → AreCanonical (lists_of columns bands)
+held_are_canonical columns bands h = record { canonical = h.canonical; values = list_values columns bands h.values }

@@ -3,6 +3,7 @@ use Rattle.std.specs.Prelude.{◌≡◌, ◌+◌, ◌≤◌, ℕ, List, [], ◌�
 use Rattle.region.specs.declared.step.Step.{Step}
 use Rattle.region.specs.Steps.{final_value, AllValid}
 use Rattle.region.specs.Region.{IsColumns}
+use Rattle.region.specs.Canonical.{Columns, Bands, IsCanonical, lists_of}
 
 -- the number of steps that begin columns of the set: of the runs of columns
 abbrev pub run_count : List (Step Bool) → ℕ
@@ -20,3 +21,13 @@ pub record IsKept {V : Type 0} (columns : V → List (Step Bool)) (bands kept : 
   pub values : AllValid (λ v. IsColumns (columns v)) bands
   pub last : (empty : V) → final_value empty kept ≡ final_value empty bands
   pub all : count ≤ 4096 → kept ≡ bands
+
+-- this is the number of the bands' rectangles, and all are kept where these are not too many
+pub record IsCounted {V : Type 0} (columns : V → Columns) (bands : Bands) (kept : List (Step V)) (count : ℕ) : Type 0 where
+  pub number : count ≡ rect_count (λ c. c) bands
+  pub all : count ≤ 4096 → lists_of columns kept ≡ bands
+
+-- canonical bands of columns as code holds them
+pub record AreCanonical (bands : Bands) : Type 0 where
+  pub canonical : IsCanonical bands
+  pub values : AllValid IsColumns bands

@@ -40,6 +40,27 @@ impl BandList {
     {
         self.count + more > MOST_RECTANGLES
     }
+
+    /// Counts the rectangles of a band and keeps none.
+    pub fn skip(&mut self, more: u64)
+        requires { self.old.count + more < 2 ^ 64 }
+        ensures count { self.new.count ≡ self.old.count + more }
+        ensures bands { self.new.bands.items ≡ [] }
+    {
+        self.count += more;
+        self.bands.clear();
+    }
+
+    /// Counts the rectangles of a band and keeps it.
+    pub fn keep(&mut self, band: Band, more: u64) -> Result<(), AllocError>
+        requires { self.old.count + more < 2 ^ 64 }
+        ensures count { OnOk result (self.new.count ≡ self.old.count + more) }
+        ensures bands { OnOk result (self.new.bands.items ≡ self.old.bands.items ++ band ∷ []) }
+    {
+        self.count += more;
+        self.bands.push(band)?;
+        Ok(())
+    }
 }
 
 impl Output<Vec<Step<bool>>> for BandList {

@@ -3,19 +3,20 @@
 ghost use Rattle.std.specs.Prelude.{◌≡◌, ◌≤◌, ◌↔◌, [], ◌||◌, ◌&&◌, not, Bool, length, IfOk, MatchResult, IsTrue, ℤ, if◌then◌else◌};
 ghost use Rattle.std.specs.List.{All, AllPairs};
 ghost use Rattle.geom_base.specs.Points.{is_in, is_in_some, AreApart};
-ghost use Rattle.region.specs.BandList.{IsKept};
+ghost use Rattle.region.specs.BandList.{IsCounted, AreCanonical};
 ghost use Rattle.region.specs.Moved.{CanMove, moved_back};
 ghost use Rattle.region.specs.Operation.{holds_after};
-ghost use Rattle.region.specs.Canonical.{HeldBands, IsRegion, RegionIsUnique, IsRegionOf, IsBands, lists_of, has_point};
+ghost use Rattle.region.specs.Canonical.{Bands, IsRegion, RegionIsUnique, IsRegionOf, has_point};
 ghost use Rattle.region.specs.Order.{IsInOrder, RegionIsInOrder};
 ghost use Rattle.region.specs.Refusal.{IsAnswer};
 
 use crate::band_list::BandList;
-use crate::build::{bands_of_rect, bands_of_rects, combined_bands};
+use crate::build::{bands_of_rect, combined_bands};
 use crate::moves::{any_holds, moved_rects};
 use crate::operation::Operation;
 use crate::rects::{Band, rects_of_bands};
 use crate::refusal::RegionRefusal;
+use crate::scan::scanned_bands;
 use geom_base::{Point, Rect};
 use std::alloc::{AllocError, Global};
 use std::marker::Model;
@@ -40,22 +41,10 @@ impl Model for Region {
     ghost invariant = { λ r. IsListed (λ v. v.items) r.bands.items r.rects.items };
 }
 
-/// The region of bands.
-fn region_of_bands(alloc: Global, bands: Vec<Band>) -> Result<Region, RegionRefusal>
-    requires { IsBands (λ v. v.items) bands.items }
-    ensures { IsAnswer (has_point (lists_of (λ v. v.items) bands.items)) result }
-{
-    let rects = rects_of_bands(alloc, &bands)?;
-    if rects.len() > 4096 {
-        return Err(RegionRefusal::TooMany(rects.len() as u64));
-    }
-    Ok(Region { bands, rects })
-}
-
 /// The region of counted bands.
 fn region_of_list(alloc: Global, list: BandList) -> Result<Region, RegionRefusal>
-    requires { (bands : HeldBands) × IsKept (λ v. v.items) bands list.bands.items list.count × IsBands (λ v. v.items) bands }
-    ensures { (bands : HeldBands) → IsKept (λ v. v.items) bands list.bands.items list.count → IsBands (λ v. v.items) bands → IsAnswer (has_point (lists_of (λ v. v.items) bands)) result }
+    requires { (bands : Bands) × IsCounted (λ v. v.items) bands list.bands.items list.count × AreCanonical bands }
+    ensures { (bands : Bands) → IsCounted (λ v. v.items) bands list.bands.items list.count → AreCanonical bands → IsAnswer (has_point bands) result }
 {
     if list.count > 4096 {
         return Err(RegionRefusal::TooMany(list.count));
@@ -72,8 +61,8 @@ impl Region {
     pub fn from_rects(alloc: Global, rects: &[Rect]) -> Result<Region, RegionRefusal>
         ensures { IsAnswer (λ p. is_in_some p rects.now) result }
     {
-        let bands = bands_of_rects(alloc, rects)?;
-        region_of_bands(alloc, bands)
+        let bands = scanned_bands(alloc, rects)?;
+        region_of_list(alloc, bands)
     }
 
     /// The rectangles, from top to bottom and in a band from left to right.

@@ -1,0 +1,4 @@
+use Rattle.region.proofs.cover.Cover.+build.Given as goal
+
+abbrev pub decreases-build : goal.decreases-build
+decreases-build l = l.count

@@ -1,0 +1,7 @@
+use Rattle.std.proofs.Common.{◌≡◌, take}
+use Rattle.std.specs.List.{All, filter}
+use Rattle.region.specs.Scan.{IsSolid, has_points}
+use Rattle.region.proofs.scan.solid_rects.Given as goal
+
+abbrev pub invariant-loop-rect : goal.invariant-loop-rect
+invariant-loop-rect l = record { rects : l.solid.items ≡ filter has_points (take l.rect-index l.rects); solid : All IsSolid l.solid.items }
