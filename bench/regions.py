@@ -11,7 +11,7 @@ CASES = [
     ("union of two regions of 4,000 rectangles", "union", 4_000),
     ("exclusive or of two of 4,096", "xor", 4_096),
     ("65,535 rectangles in a line, refused", "line", 65_535),
-    ("1,000 columns across 1,000 rows, refused", "grid", 1_000),
+    ("32,768 columns across 32,768 rows, refused", "grid", 32_768),
 ]
 
 
