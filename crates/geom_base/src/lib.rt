@@ -1,4 +1,4 @@
-//! Points, sizes and rectangles.
+//! Points, sizes, rectangles, and the names of what is drawn on.
 //!
 //! A rectangle is the set of its points: those from its left and its upper edge on, before its right and its
 //! lower edge. All that is said of rectangles is said of these points.
@@ -7,7 +7,9 @@
 mod point;
 mod rect;
 mod size;
+mod target;
 
 pub use point::Point;
 pub use rect::Rect;
 pub use size::Size;
+pub use target::Target;

@@ -55,14 +55,14 @@ impl Ready {
 }
 
 /// Whether two surfaces keep pixels alike.
-fn is_same_kind(from: Format, from_table: &ColourTable, to: Format, to_table: &ColourTable) -> bool
+pub fn is_same_kind(from: Format, from_table: &ColourTable, to: Format, to_table: &ColourTable) -> bool
     ensures { result ≡ same_kind from from_table.now to to_table.now }
 {
     from == to && from_table.colours() == to_table.colours()
 }
 
 /// Whether only the background becomes 1.
-fn is_to_mono(from: Format, to: Format) -> bool
+pub fn is_to_mono(from: Format, to: Format) -> bool
     ensures { result ≡ spec.is_to_mono from to }
 {
     to == Format::B1 && from != Format::B1

@@ -1,0 +1,4 @@
+pub mod RowLemmas
+pub mod WrapLemmas
+pub mod BrushLemmas
+pub mod SlotLemmas

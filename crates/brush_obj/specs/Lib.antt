@@ -1,0 +1,6 @@
+pub mod Wrapping
+pub mod Hatches
+pub mod Image
+pub mod Brush
+pub mod Realised
+pub mod Slots
