@@ -1,1 +1,5 @@
 pub mod JoinLemmas
+pub mod AcrossLemmas
+pub mod DrawLemmas
+pub mod OrderLemmas
+pub mod PartLemmas

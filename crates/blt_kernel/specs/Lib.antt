@@ -1,1 +1,3 @@
-pub mod Painting
+pub mod Across
+pub mod Drawing
+pub mod Order

@@ -1,5 +1,9 @@
 //! Blits, copies and paints of one rectangle, on bits.
 #![tactic(auto)]
 
-mod painting;
-mod places;
+mod across;
+mod drawing;
+mod ink;
+mod mask;
+mod rows;
+mod source;

@@ -1,0 +1,51 @@
+//! Brushes on a surface.
+
+ghost use Rattle.std.specs.Prelude.{◌≡◌, ◌≤◌, ◌<◌, ◌+◌, ◌^◌, EachIndex, length, slice_index};
+ghost use Rattle.surf_obj.specs.Surface.{point_at};
+ghost use Rattle.blt_kernel.specs.Drawing.{ink_at, InkFits};
+
+use brush_obj::BrushFace;
+use geom_base::Point;
+use pix_format::{ColourTable, Format};
+
+/// What is painted with: one value, or a brush with the target's table and the point where its square begins.
+#[derive(Clone, Copy)]
+pub enum Ink<'a> {
+    Solid(u32),
+    Face {
+        face: &'a BrushFace,
+        table: &'a ColourTable,
+        origin: Point,
+    },
+}
+
+impl Ink<'_> {
+    /// The values for a run of a target of this format.
+    pub fn fill_run(&self, format: Format, x: u32, y: u32, out: &mut [u32])
+        requires column { x ≤ 4096 }
+        requires row { y ≤ 4096 }
+        requires ink { InkFits self.now format }
+        ensures { EachIndex out.new (λ k. slice_index out.new k ≡ ink_at self.now format (point_at (x + k) y)) }
+    {
+        match self {
+            Ink::Solid(value) => out.fill(*value),
+            Ink::Face {
+                face,
+                table,
+                origin,
+            } => face.fill_row(format, table, *origin, point_at(x, y), out),
+        }
+    }
+}
+
+/// The point of a column and a row.
+fn point_at(x: u32, y: u32) -> Point
+    requires column { x ≤ 4096 }
+    requires row { y ≤ 4096 }
+    ensures { result ≡ point_at x y }
+{
+    Point {
+        x: x as i32,
+        y: y as i32,
+    }
+}

@@ -1,0 +1,64 @@
+//! Sources.
+
+ghost use Rattle.std.specs.Prelude.{◌≡◌, ◌<◌, ◌+◌, ◌^◌, IfSome, EachIndex, All, length, slice_index};
+ghost use Rattle.pix_format.specs.Value.{bits_of};
+ghost use Rattle.surf_obj.specs.Lent.{values_of, size_of, format_of};
+ghost use Rattle.surf_obj.specs.Surface.{point_at};
+ghost use Rattle.blt_kernel.specs.Drawing.{SourceFits, source_at, source_or_none, format_from, size_from, values_from};
+ghost use Rattle.blt_kernel.specs.Across.{Reaches, value_across};
+
+use crate::across::Across;
+use pix_format::XlateObj;
+use surf_obj::{LentSurf, LentView};
+
+/// The pixels that are drawn, and how they become values of the target.
+#[derive(Clone, Copy)]
+pub struct Source<'a> {
+    /// The surface that was lent, or none where the target itself is the source.
+    pub lent: Option<&'a LentView<'a>>,
+    pub across: Across,
+    pub xlate: &'a XlateObj,
+}
+
+impl Source<'_> {
+    /// Reads the source's values for a run of the target, as the target keeps them.
+    pub fn read_run(&self, dst: &LentSurf<'_>, x: u32, y: u32, out: &mut [u32])
+        requires { SourceFits (size_of dst.now) (format_of dst.now) x y (x + length out.old) (y + 1) self.now }
+        ensures values { EachIndex out.new (λ k. slice_index out.new k ≡ source_at self.now (size_of dst.now) (values_of dst.now) (point_at (x + k) y)) }
+        ensures fit { All (λ v. v < 2 ^ bits_of (format_of dst.now)) out.new }
+    {
+        self.read_own(dst, x, y, out);
+        self.xlate.xlate_row(out);
+    }
+
+    /// Reads the source's own values for a run of the target.
+    fn read_own(&self, dst: &LentSurf<'_>, x: u32, y: u32, out: &mut [u32])
+        requires { Reaches self.now.across (size_from self.now.lent (size_of dst.now)) x y (x + length out.old) (y + 1) }
+        ensures values { EachIndex out.new (λ k. slice_index out.new k ≡ value_across self.now.across (size_from self.now.lent (size_of dst.now)) (values_from self.now.lent (values_of dst.now)) (point_at (x + k) y)) }
+        ensures fit { All (λ v. v < 2 ^ bits_of (format_from self.now.lent (format_of dst.now))) out.new }
+    {
+        let x = self.across.column(x);
+        let y = self.across.row(y);
+        match self.lent {
+            Some(view) => view.read_run(x, y, out),
+            None => dst.read_run(x, y, out),
+        }
+    }
+}
+
+/// Reads a source for a run of the target, or nothing but 0 where there is none.
+pub fn read_source(
+    source: &Option<Source<'_>>,
+    dst: &LentSurf<'_>,
+    x: u32,
+    y: u32,
+    out: &mut [u32],
+)
+    requires { IfSome source.now (SourceFits (size_of dst.now) (format_of dst.now) x y (x + length out.old) (y + 1)) }
+    ensures { EachIndex out.new (λ k. slice_index out.new k ≡ source_or_none source.now (size_of dst.now) (values_of dst.now) (point_at (x + k) y)) }
+{
+    match source {
+        Some(source) => source.read_run(dst, x, y, out),
+        None => out.fill(0),
+    }
+}
