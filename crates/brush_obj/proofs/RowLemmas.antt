@@ -1,26 +1,11 @@
 -- Rows of values.
-use Rattle.std.proofs.Common.{◌≡◌, ◌≢◌, ℕ, zero, suc, ◌+◌, ◌-◌, ◌*◌, ◌%◌, ◌<◌, ◌≤◌, List, length, get_or, set, refl, sym, ◌∙◌, ap, subst, arith, rules, ◌⊎◌, inl, inr, zero-add, min, ◌++◌}
+use Rattle.std.proofs.Common.{◌≡◌, ℕ, ◌+◌, ◌-◌, ◌*◌, ◌%◌, ◌<◌, ◌≤◌, List, length, get_or, refl, sym, ◌∙◌, ap, subst, arith, ◌⊎◌, inl, inr, zero-add, min, ◌++◌}
 use Rattle.std.specs.List.{All, CopiedTo, SameBelow}
-use Rattle.std.proofs.lemmas.List.{get_or-set_same, get_or-set_other, get_or_default, get_or_append_left}
+use Rattle.std.proofs.lemmas.List.{get_or_append_left, get_or-append-add}
 use Rattle.std.proofs.lemmas.List.Elements.{All-get_or, All-from_get_or}
 use Rattle.std.proofs.lemmas.Bool.{cases_eq}
 use Rattle.std.proofs.lemmas.Nat.{mul-add-lt, mod_below}
-use Rattle.std.proofs.Math.Nat.{mod-add-mod, mod-le}
-
--- one more value of a row
-pub one_more : (f : ℕ → ℕ) (out : List ℕ) (k v : ℕ) → k < length out → ((j : ℕ) → j < k → get_or out j 0 ≡ f j) → v ≡ f k → (j : ℕ) → j < k + 1 → get_or (set out k v) j 0 ≡ f j
-one_more f out k v inside done here j below = elim (cases_eq j k) [
-  | inl same ↦ subst (λ i. get_or (set out k v) i 0 ≡ f i) (sym same) (get_or-set_same out k v 0 inside ∙ here)
-  | inr other ↦ get_or-set_other out k j v 0 other ∙ done j (omega arith)
-]
-
--- what an index gives, with the place told otherwise
-pub value_there : (xs : List ℕ) (i j v : ℕ) → v ≡ get_or xs i v → i ≡ j → i < length xs → v ≡ get_or xs j 0
-value_there xs i j v e same inside = e ∙ get_or_default xs i v 0 inside ∙ ap (λ k. get_or xs k 0) same
-
--- a place of a grid is a place of its list
-pub inside_grid : (y w x h : ℕ) (xs : List ℕ) → length xs ≡ w * h → y < h → x < w → y * w + x < length xs
-inside_grid y w x h xs long hy hx = rw long (mul-add-lt y w x h hy hx)
+use Rattle.std.proofs.Math.Nat.{mod-add-mod, mod-le, mul_comm}
 
 -- what holds of all values holds of those taken from among them
 pub All-taken : (P : ℕ → Type 0) (xs out : List ℕ) (g : ℕ → ℕ) → All P xs → ((j : ℕ) → j < length out → (get_or out j 0 ≡ get_or xs (g j) 0) × (g j < length xs)) → All P out
@@ -63,3 +48,20 @@ repeated_taken part rest row w n some long short repeated i inside =
     let within : i % w ≤ i = mod-le i w in
     let first : i % w < length part = omega arith in
     (repeated i inside ∙ get_or_append_left part rest 0 (i % w) first, first)
+
+-- one more row of a grid
+pub one_more_row : (f : ℕ → ℕ → ℕ) (xs row : List ℕ) (w n : ℕ) → length xs ≡ n * w → length row ≡ w → ((x y : ℕ) → x < w → y < n → get_or xs (y * w + x) 0 ≡ f x y) → ((x : ℕ) → x < w → get_or row x 0 ≡ f x n) →
+    (x y : ℕ) → x < w → y < n + 1 → get_or (xs ++ row) (y * w + x) 0 ≡ f x y
+one_more_row f xs row w n long wide above here x y hx hy = elim (cases_eq y n) [
+  | inl same ↦
+      let place : y * w + x ≡ length xs + x = rw (same, long) refl in
+      rw place (get_or-append-add xs row x 0 ∙ here x hx ∙ rw same refl)
+  | inr other ↦
+      let before : y < n = omega arith in
+      let place : y * w + x < length xs = let p = mul-add-lt y w x n before hx in rw (long, mul_comm n w) p in
+      get_or_append_left xs row 0 (y * w + x) place ∙ above x y hx before
+]
+
+-- where one more row is to come there is room for it
+pub row_fits : (w h y room : ℕ) → 1 ≤ w → y < h → w * h ≤ room + y * w → w ≤ room
+row_fits w h y room some inside enough = let last = mul-add-lt y w (w - 1) h inside (omega arith) in omega arith

@@ -1,10 +1,9 @@
 -- The slots of a brush.
-use Rattle.std.proofs.Common.{◌≡◌, ◌≢◌, ℕ, zero, suc, ◌<◌, ◌≤◌, List, [], ◌∷◌, ◌++◌, length, get_or, set, Option, Some, None, Bool, true, false, cond, ◌||◌, refl, sym, ◌∙◌, ap, arith, rules, ◌==◌, nat_lt, true≢false}
+use Rattle.std.proofs.Common.{◌≡◌, ◌≢◌, ℕ, zero, suc, ◌<◌, List, [], ◌∷◌, ◌++◌, length, get_or, set, Some, None, Bool, true, false, cond, ◌||◌, refl, sym, ◌∙◌, ap, arith, ◌==◌, nat_lt, true≢false}
 use Rattle.std.specs.List.{position, position_or_len}
 use Rattle.std.proofs.lemmas.List.Quantifiers.{position-Some}
 use Rattle.std.proofs.lemmas.List.Sums.{fails_before_first}
 use Rattle.brush_obj.specs.declared.slot.Slot.{Slot}
-use Rattle.brush_obj.specs.Realised.{Realised}
 use Rattle.brush_obj.specs.Slots.{OnlyOf, is_among, kept_among}
 
 same : (a b : ℕ) → a ≡ b → (a == b) ≡ true
@@ -104,11 +103,14 @@ no_place owner xs e = λ k d h. fails_before_first (is_of owner) xs k d (below (
 -- a slot of the owner in place of its first one
 pub placed : (owner : ℕ) (xs : List Slot) (i : ℕ) (s : Slot) → position (is_of owner) xs ≡ Some i → s.owner ≡ owner → (kept_among (set xs i s) owner ≡ s.realised) × (is_among (set xs i s) owner ≡ true) × OnlyOf owner xs (set xs i s)
 placed owner xs i s at e =
-    let f = first_place owner xs i s at in
-    (kept-set owner xs i s s f e, among-set owner xs i s s f e, record {
-      places = λ other h. among-set_other owner other xs i s s f e h;
-      kept = λ other h. kept-set_other owner other xs i s s f e h;
-    })
+    let f = first_place owner xs i s at in (
+      kept-set owner xs i s s f e,
+      among-set owner xs i s s f e,
+      record {
+        places = λ other h. among-set_other owner other xs i s s f e h;
+        kept = λ other h. kept-set_other owner other xs i s s f e h;
+      },
+    )
 
 neither : (a b : Bool) → (a || b) ≡ false → (a ≡ false) × (b ≡ false)
 neither true b h = absurd (true≢false h)
@@ -126,11 +128,14 @@ among-none owner (x ∷ xs) none =
 
 -- a slot of an owner that had none
 pub added : (owner : ℕ) (xs : List Slot) (s : Slot) → is_among xs owner ≡ false → s.owner ≡ owner → (kept_among (xs ++ s ∷ []) owner ≡ s.realised) × (is_among (xs ++ s ∷ []) owner ≡ true) × OnlyOf owner xs (xs ++ s ∷ [])
-added owner xs s none e =
-    (kept-push owner xs s (among-none owner xs none) e, among-push owner xs s e, record {
-      places = λ other h. among-push_other owner other xs s e h;
-      kept = λ other h. kept-push_other owner other xs s e h;
-    })
+added owner xs s none e = (
+  kept-push owner xs s (among-none owner xs none) e,
+  among-push owner xs s e,
+  record {
+    places = λ other h. among-push_other owner other xs s e h;
+    kept = λ other h. kept-push_other owner other xs s e h;
+  },
+)
 
 -- an owner that has a place has one that is found
 pub found : (owner : ℕ) (xs : List Slot) → is_among xs owner ≡ true → position (is_of owner) xs ≡ None → ⊥

@@ -1,5 +1,5 @@
 -- The value that a brush has at a point.
-use Rattle.std.specs.Prelude.{ℕ, List, Bool, true, false, ◌-ℤ◌, if◌then◌else◌}
+use Rattle.std.specs.Prelude.{ℕ, List, ◌≡◌, Bool, true, false, ◌-ℤ◌, if◌then◌else◌}
 use Rattle.geom_base.specs.declared.point.Point.{Point}
 use Rattle.geom_base.specs.declared.size.Size.{Size}
 use Rattle.geom_base.specs.Grid.{grid_of}
@@ -11,7 +11,7 @@ use Rattle.surf_obj.specs.Surface.{value_at, point_at}
 use Rattle.brush_obj.specs.declared.face.BrushFace.{BrushFace}
 use Rattle.brush_obj.specs.declared.face.BrushFace.TheVariants.{Solid, Hatch, Pattern}
 use Rattle.brush_obj.specs.Hatches.{in_hatch}
-use Rattle.brush_obj.specs.Image.{Image}
+use Rattle.brush_obj.specs.Realised.{Realised}
 use Rattle.brush_obj.specs.Wrapping.{wrapped}
 
 -- the size of the square that a brush repeats: one pixel of a colour, eight by eight of a hatch, the pattern
@@ -43,3 +43,12 @@ brush_value face format table origin p =
 abbrev pub realised_values : BrushFace → Format → List Rgb → List ℕ
 realised_values face format table =
     grid_of (size_of face).w (size_of face).h (λ x y. brush_value face format table (point_at 0 0) (point_at x y))
+
+-- a realised brush is that of a brush on a surface of a format and a table
+pub record IsRealised (face : BrushFace) (format : Format) (table : List Rgb) (r : Realised) : Type 0 where
+  pub size : r.size ≡ size_of face
+  pub values : r.values ≡ realised_values face format table
+
+-- the value of a realised brush that belongs to a point: its square repeats from the origin on
+abbrev pub value_of_realised : Realised → Point → Point → ℕ
+value_of_realised r origin p = value_at r.size r.values (wrapped (p.x -ℤ origin.x) r.size.w) (wrapped (p.y -ℤ origin.y) r.size.h)

@@ -1,5 +1,5 @@
 -- What a pattern is: a copy of a surface, with the background colour that was in force when it was made.
-use Rattle.std.specs.Prelude.{ℕ, List, All, length, ◌≡◌, ◌<◌, ◌≤◌, ◌*◌, ◌^◌}
+use Rattle.std.specs.Prelude.{All, length, ◌≡◌, ◌<◌, ◌≤◌, ◌*◌, ◌^◌}
 use Rattle.geom_base.specs.declared.size.Size.{Size}
 use Rattle.pix_format.specs.declared.rgb.Rgb.{Rgb}
 use Rattle.pix_format.specs.Value.{bits_of, colours_of}

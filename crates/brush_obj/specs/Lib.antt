@@ -4,3 +4,5 @@ pub mod Image
 pub mod Brush
 pub mod Realised
 pub mod Slots
+pub mod Refusals
+pub mod Calls

@@ -11,7 +11,7 @@ use crate::pattern::Pattern;
 use crate::rbrush::RBrush;
 use crate::refusal::BrushRefusal;
 use crate::slot::{Slot, fill, make_place, place_of};
-use geom_base::Point;
+use geom_base::{Point, Size};
 use pix_format::{ColourTable, Format, Rgb};
 use std::alloc::{AllocError, Global};
 use std::marker::Model;
@@ -33,7 +33,8 @@ impl Model for BrushObj {
 
 impl BrushObj {
     ghost use Rattle.brush_obj.specs.Brush.{brush_value, is_solid, size_of};
-    ghost use Rattle.brush_obj.specs.Image.{HasPatternSides};
+    ghost use Rattle.brush_obj.specs.Image.{HasPatternSides, IsWhole};
+    ghost use Rattle.brush_obj.specs.Refusals.{Refuses};
     ghost use Rattle.brush_obj.specs.Slots.{OnlySlot, has_place, kept};
 
     /// A brush of one colour.
@@ -48,6 +49,35 @@ impl BrushObj {
         ensures { result ≡ record { face = BrushFace.Hatch kind fore back; slots = [] } }
     {
         BrushObj::of(alloc, BrushFace::Hatch { kind, fore, back })
+    }
+
+    /// A pattern of these values, row by row, of a surface of this format and table, with the background colour in force.
+    ///
+    /// # Errors
+    ///
+    /// `TooLarge` exactly where a side is over 64, else `NoMemory` for want of memory.
+    pub fn pattern(
+        alloc: Global,
+        size: Size,
+        format: Format,
+        table: &ColourTable,
+        values: &[u32],
+        back: Rgb,
+    ) -> Result<BrushObj, BrushRefusal>
+        requires width { 1 ≤ size.w }
+        requires height { 1 ≤ size.h }
+        requires whole { IsWhole (record { size = size; format = format; table = table.now; values = values.now }) }
+        ensures ok { IfOk result (λ b. b ≡ record { face = BrushFace.Pattern (record { picture = record { size = size; format = format; table = table.now; values = values.now }; back = back }); slots = [] }) }
+        ensures sides { OnOk result (HasPatternSides size) }
+        ensures err { IfErr result (Refuses size) }
+    {
+        if size.w > 64 || size.h > 64 {
+            return Err(BrushRefusal::TooLarge(size));
+        }
+        let table = ColourTable::of(alloc, table.colours())?;
+        let values = Vec::from_slice(alloc, values)?;
+        let pattern = Pattern::new(size, format, table, values, back);
+        Ok(BrushObj::of(alloc, BrushFace::Pattern(pattern)))
     }
 
     /// A brush that looks like this, in which no driver has a place.
@@ -68,13 +98,7 @@ impl BrushObj {
     }
 
     /// The value at a point of a surface of this format and table.
-    pub fn value_at(
-        &self,
-        format: Format,
-        table: &ColourTable,
-        origin: Point,
-        p: Point,
-    ) -> u32
+    pub fn value_at(&self, format: Format, table: &ColourTable, origin: Point, p: Point) -> u32
         requires { length table.now ≡ colours_of format }
         ensures value { result ≡ brush_value self.now.face format table.now origin p }
         ensures fits { result < 2 ^ bits_of format }

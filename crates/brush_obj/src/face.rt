@@ -7,6 +7,7 @@ ghost use Rattle.pix_format.specs.Value.{bits_of, colours_of};
 
 use crate::hatch::Hatch;
 use crate::pattern::Pattern;
+use crate::rbrush::RBrush;
 use crate::repeating::repeat;
 use crate::wrapping::{turned, wrapped};
 use geom_base::{Point, Size};
@@ -21,8 +22,9 @@ pub enum BrushFace {
 }
 
 impl BrushFace {
-    ghost use Rattle.brush_obj.specs.Brush.{brush_value, is_solid, size_of, tile_value};
+    ghost use Rattle.brush_obj.specs.Brush.{IsRealised, brush_value, is_solid, size_of, tile_value};
     ghost use Rattle.brush_obj.specs.Image.{HasPatternSides};
+    ghost use Rattle.brush_obj.specs.Realised.{HasAllValues, IsReadyFor};
 
     /// The size of the square that it repeats, which is that of the realised brush.
     pub fn size(&self) -> Size
@@ -37,13 +39,7 @@ impl BrushFace {
     }
 
     /// The value at a point of a surface of this format and table.
-    pub fn value_at(
-        &self,
-        format: Format,
-        table: &ColourTable,
-        origin: Point,
-        p: Point,
-    ) -> u32
+    pub fn value_at(&self, format: Format, table: &ColourTable, origin: Point, p: Point) -> u32
         requires { length table.now ≡ colours_of format }
         ensures value { result ≡ brush_value self.now format table.now origin p }
         ensures fits { result < 2 ^ bits_of format }
@@ -85,6 +81,22 @@ impl BrushFace {
         let first = out.len().min(size.w as usize);
         self.fill_part(format, table, x, y, &mut out[..first]);
         repeat(out, size.w as usize);
+    }
+
+    /// Fills a realised brush with the values on a surface of this format and table.
+    pub fn realise(&self, format: Format, table: &ColourTable, into: &mut RBrush)
+        requires table { length table.now ≡ colours_of format }
+        requires ready { IsReadyFor (size_of self.now) into.old }
+        ensures realised { IsRealised self.now format table.now into.new }
+        ensures all { HasAllValues into.new }
+    {
+        let size = self.size();
+        let mut room = [0; 64];
+        let row = &mut room[..size.w as usize];
+        for y in 0..size.h {
+            self.fill_part(format, table, 0, y, row);
+            into.put_row(row);
+        }
     }
 
     /// A part of a row of the square: from column `x` of row `y` on, and round to the first column again.

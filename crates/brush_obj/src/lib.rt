@@ -1,19 +1,36 @@
 //! Brushes, and the records of the calls that draw with them.
+//!
+//! A brush is one colour, a hatch or a pattern. It fills the plane with a square that repeats from an origin on in all
+//! directions; `brush_value` of `specs/Brush.antt` says which value it has at a point of a surface. `BrushFace` is what a brush
+//! looks like, and gives these values, at a point or along a row. `BrushObj` is a brush with slots, in which each driver that
+//! asked for it keeps an `RBrush`: the values of the square on the driver's surfaces, worked out once.
+//!
+//! `BltCall`, `CopyCall` and `PaintCall` are calls on one surface. `new_of_blt`, `new_of_copy` and `new_of_paint` of
+//! `specs/Calls.antt` say what each of them gives a point, from the values before the call alone. Whoever draws a call meets
+//! them.
 #![tactic(auto)]
 
+mod blt_call;
 mod brush;
+mod copy_call;
 mod face;
 mod hatch;
+mod paint_call;
 mod pattern;
 mod rbrush;
 mod refusal;
 mod repeating;
 mod slot;
+#[cfg(test)]
+mod tests;
 mod wrapping;
 
+pub use blt_call::BltCall;
 pub use brush::BrushObj;
+pub use copy_call::CopyCall;
 pub use face::BrushFace;
 pub use hatch::Hatch;
+pub use paint_call::PaintCall;
 pub use pattern::Pattern;
 pub use rbrush::RBrush;
 pub use refusal::BrushRefusal;

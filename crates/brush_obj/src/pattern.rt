@@ -5,7 +5,7 @@ ghost use Rattle.pix_format.specs.Translate.{convert};
 ghost use Rattle.pix_format.specs.Value.{bits_of, colours_of};
 ghost use Rattle.surf_obj.specs.Surface.{value_at};
 
-use crate::wrapping::turned;
+use crate::repeating::copy_round;
 use geom_base::Size;
 use pix_format::{ColourTable, Format, Rgb, convert_row};
 use std::marker::Model;
@@ -81,29 +81,9 @@ impl Pattern {
             convert picture.format picture.table format table.now image.back (value_at picture.size picture.values ((x + k) % picture.size.w) y)) }
         ensures fit { All (λ v. v < 2 ^ bits_of format) out.new }
     {
-        self.copy_part(x, y, out);
-        convert_row(
-            self.format,
-            &self.table,
-            format,
-            table,
-            self.back,
-            out,
-        );
-    }
-
-    /// A part of a row in the pattern's own values.
-    fn copy_part(&self, x: u32, y: u32, out: &mut [u32])
-        requires column { x < self.now.picture.size.w }
-        requires row { y < self.now.picture.size.h }
-        requires short { length out.old ≤ self.now.picture.size.w }
-        ensures values { let picture = self.now.picture in EachIndex out.new (λ k. slice_index out.new k ≡ value_at picture.size picture.values ((x + k) % picture.size.w) y) }
-        ensures fit { All (λ v. v < 2 ^ bits_of self.now.picture.format) out.new }
-    {
         let width = self.size.w as usize;
         let start = y as usize * width;
-        for k in 0..out.len() {
-            out[k] = self.values[start + turned(x as usize + k, width)];
-        }
+        copy_round(&self.values[start..start + width], x as usize, out);
+        convert_row(self.format, &self.table, format, table, self.back, out);
     }
 }

@@ -9,3 +9,14 @@ pub enum BrushRefusal {
     TooLarge(Size),
     NoMemory,
 }
+
+impl From<AllocError> for BrushRefusal {
+    ghost use Rattle.std.specs.Prelude.{◌≡◌};
+    ghost use Rattle.brush_obj.specs.declared.refusal.BrushRefusal.TheVariants.{NoMemory};
+
+    ghost from_gives = { λ _ refusal. refusal ≡ NoMemory };
+
+    fn from(_error: AllocError) -> BrushRefusal {
+        BrushRefusal::NoMemory
+    }
+}

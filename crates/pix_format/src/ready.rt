@@ -55,7 +55,12 @@ impl Ready {
 }
 
 /// Whether two surfaces keep pixels alike.
-pub fn is_same_kind(from: Format, from_table: &ColourTable, to: Format, to_table: &ColourTable) -> bool
+pub fn is_same_kind(
+    from: Format,
+    from_table: &ColourTable,
+    to: Format,
+    to_table: &ColourTable,
+) -> bool
     ensures { result ≡ same_kind from from_table.now to to_table.now }
 {
     from == to && from_table.colours() == to_table.colours()

@@ -3,7 +3,7 @@
 ghost use Rattle.std.specs.Prelude.{◌<◌, ◌^◌};
 ghost use Rattle.pix_format.specs.Value.{bits_of};
 
-use crate::{ColourTable, Format, Rgb, XlateKind, XlateObj, colour_of, value_of};
+use crate::{ColourTable, Format, Rgb, XlateKind, XlateObj, colour_of, convert_row, value_of};
 use std::alloc::{AllocError, Global};
 
 const FORMATS: [Format; 7] = [
@@ -213,5 +213,22 @@ fn table_of_its_own(rt: HostRuntime) -> Result<(), AllocError> {
     let xlate = XlateObj::build(alloc, Format::B1, &own, Format::B1, &plain, WHITE)?;
     assert_eq!(rt; xlate.kind(), XlateKind::Table);
     assert_eq!(rt; xlate.xlate(1), 0);
+    Ok(())
+}
+
+#[test]
+fn rows_with_nothing_made_ready(rt: HostRuntime) -> Result<(), AllocError> {
+    let table = ColourTable::standard(rt.alloc(), Format::B8)?;
+    let rows = [
+        (Format::B1, [1, 0, 0]),
+        (Format::B8, [0xe0, 0x03, 0x18]),
+        (Format::B24, [0xff0000, 0x0000ff, 0x00db00]),
+    ];
+    for (format, want) in rows {
+        let to = ColourTable::standard(rt.alloc(), format)?;
+        let mut row = [0xe0, 0x03, 0x18];
+        convert_row(Format::B8, &table, format, &to, rgb(0xff0000), &mut row);
+        assert_eq!(rt; row, want, "{format:?}");
+    }
     Ok(())
 }

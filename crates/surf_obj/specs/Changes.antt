@@ -1,6 +1,8 @@
 -- What a drawing does to a surface, as a set of points and a rule for the new value of each.
-use Rattle.std.specs.Prelude.{ℕ, Bool, false, Option, None}
+use Rattle.std.specs.Prelude.{ℕ, ◌≡◌, Bool, false, List, Option, None}
+use Rattle.std.proofs.Common.{ap}
 use Rattle.geom_base.specs.declared.point.Point.{Point}
+use Rattle.surf_obj.specs.Steps.{redrawn_nowhere}
 use Rattle.surf_obj.specs.Surface.{Surface, redrawn}
 
 -- a set of points
@@ -22,3 +24,7 @@ untouched p old = None
 -- each point of the area has its new value, all at once from the old ones
 abbrev pub changed : Change → Area → Surface → Surface
 changed new area s = record { size = s.size; format = s.format; table = s.table; values = redrawn s.size s.values area new }
+
+-- a drawing in no point changes nothing
+pub changed_nowhere : (new : Change) (s : Surface) → changed new nowhere s ≡ s
+changed_nowhere new s = ap (λ (values : List ℕ). record s { values = values }) (redrawn_nowhere s.size s.values new)

@@ -1,4 +1,4 @@
-use Rattle.std.proofs.Common.{◌≡◌, ◌<◌, ◌≤◌, ◌+◌, ◌%◌, ◌⊎◌, inl, inr, ℕ, length, ap, get_or, sym, rules, arith}
+use Rattle.std.proofs.Common.{◌≡◌, ◌≤◌, ◌%◌, inl, inr, ℕ, length, ap, get_or, sym, arith}
 use Rattle.std.proofs.Math.Nat.{mod_self, mod-eq_of_lt}
 use Rattle.brush_obj.proofs.RowLemmas.{repeated_more, whole_after}
 use Rattle.brush_obj.proofs.repeating.repeat.Goals as goal

@@ -1,4 +1,4 @@
-use Rattle.std.proofs.Common.{rules, ◌∙◌, sym, refl}
+use Rattle.std.proofs.Common.{◌∙◌, sym, refl}
 use Rattle.brush_obj.proofs.SlotLemmas.{placed, found}
 use Rattle.brush_obj.proofs.slot.fill.Goals as goal
 

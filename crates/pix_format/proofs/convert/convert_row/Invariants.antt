@@ -1,4 +1,4 @@
-use Rattle.std.proofs.Common.{◌≡◌, ◌<◌, ◌≤◌, ◌^◌, ℕ, length, get_or}
+use Rattle.std.proofs.Common.{◌≡◌, ◌<◌, ◌≤◌, ◌^◌, ℕ, get_or}
 use Rattle.pix_format.specs.Translate.{recoloured}
 use Rattle.pix_format.specs.Value.{bits_of}
 use Rattle.pix_format.proofs.convert.convert_row.Given as goal

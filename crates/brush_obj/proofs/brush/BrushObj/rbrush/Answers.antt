@@ -1,5 +1,4 @@
-use Rattle.std.proofs.Common.{◌∙◌, sym, ap}
-use Rattle.brush_obj.specs.Slots.{kept}
+use Rattle.std.proofs.Common.{◌∙◌, sym}
 use Rattle.brush_obj.proofs.SlotLemmas.{kept_there, kept_nowhere}
 use Rattle.brush_obj.proofs.brush.BrushObj.rbrush.Goals as goal
 

@@ -1,4 +1,4 @@
-use Rattle.std.proofs.Common.{◌≡◌, ◌<◌, ◌%◌, ◌^◌, ◌∙◌, ℕ, length, rules, arith}
+use Rattle.std.proofs.Common.{◌<◌, ◌%◌, ◌^◌, ◌∙◌, ℕ, length, rules, arith}
 use Rattle.std.proofs.Math.ListN.{length-take}
 use Rattle.pix_format.specs.Value.{bits_of}
 use Rattle.brush_obj.proofs.BrushLemmas.{tile_after}

@@ -1,0 +1,30 @@
+//! The call that mixes a brush into a target.
+
+ghost use Rattle.std.specs.Prelude.{◌≡◌, ℕ, Some};
+ghost use Rattle.geom_base.specs.declared.point.Point.{Point};
+ghost use Rattle.pix_format.specs.Value.{bits_of};
+ghost use Rattle.rop_mix.specs.Rop.{rop3_of};
+
+use geom_base::{Point, Rect, Target};
+use rop_mix::Mix;
+
+/// A mix of a brush in a rectangle of a target.
+#[derive(Clone, Copy, Debug, PartialEq, Eq)]
+pub struct PaintCall {
+    pub target: Target,
+    pub rect: Rect,
+    pub origin: Point,
+    pub mix: Mix,
+}
+
+impl PaintCall {
+    ghost use Rattle.brush_obj.specs.Brush.{brush_value};
+    ghost use Rattle.brush_obj.specs.Calls.{Operands, new_of_paint};
+
+    /// The code of three operands that does what the mix does, whatever the source.
+    pub fn rop3(&self) -> u8
+        ensures { (o : Operands) (p : Point) (s d : ℕ) → new_of_paint self.now o p d ≡ Some (rop3_of result (brush_value o.brush o.format o.table self.now.origin p) s d (bits_of o.format)) }
+    {
+        self.mix.rop3()
+    }
+}
