@@ -3,3 +3,4 @@ pub mod AcrossLemmas
 pub mod DrawLemmas
 pub mod OrderLemmas
 pub mod PartLemmas
+pub mod KernelLemmas

@@ -39,7 +39,7 @@ Reaches-part across size l t r b l' t' r' b' h hl ht hr hb = record {
 
 source_part : (s : Option Source) (size : Size) (format : Format) (l t r b l' t' r' b' : ℕ) → IfSome s (SourceFits size format l t r b) → l ≤ l' → t ≤ t' → r' ≤ r → b' ≤ b → IfSome s (SourceFits size format l' t' r' b')
 source_part None size format l t r b l' t' r' b' h hl ht hr hb = tt
-source_part (Some s) size format l t r b l' t' r' b' h hl ht hr hb = record { there = Reaches-part s.across (size_from s.lent size) l t r b l' t' r' b' h.there hl ht hr hb; from = h.from; to = h.to }
+source_part (Some s) size format l t r b l' t' r' b' h hl ht hr hb = record { there = Reaches-part s.across (size_from s.lent size) l t r b l' t' r' b' h.there hl ht hr hb; translated = h.translated }
 
 mask_part : (m : Option Mask) (l t r b l' t' r' b' : ℕ) → IfSome m (MaskFits l t r b) → l ≤ l' → t ≤ t' → r' ≤ r → b' ≤ b → IfSome m (MaskFits l' t' r' b')
 mask_part None l t r b l' t' r' b' h hl ht hr hb = tt

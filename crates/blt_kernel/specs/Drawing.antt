@@ -75,11 +75,15 @@ pub record IsFill (d : Drawing) (value : ℕ) : Type 0 where
   pub code : d.rop.code / 256 ≡ 0xF0
   pub ink : d.ink ≡ Solid value
 
--- a source is there for a box, and is translated from its format to the target's
-pub record SourceFits (size : Size) (format : Format) (left top right bottom : ℕ) (s : Source) : Type 0 where
-  pub there : Reaches s.across (size_from s.lent size) left top right bottom
+-- a source is translated from its format to that of the target
+pub record IsTranslated (format : Format) (s : Source) : Type 0 where
   pub from : s.xlate.now.from ≡ format_from s.lent format
   pub to : s.xlate.now.to ≡ format
+
+-- and it is there for a box
+pub record SourceFits (size : Size) (format : Format) (left top right bottom : ℕ) (s : Source) : Type 0 where
+  pub there : Reaches s.across (size_from s.lent size) left top right bottom
+  pub translated : IsTranslated format s
 
 -- a mask is there for a box
 abbrev pub MaskFits : ℕ → ℕ → ℕ → ℕ → Mask → Type 0

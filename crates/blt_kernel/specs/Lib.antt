@@ -1,3 +1,5 @@
 pub mod Across
 pub mod Drawing
 pub mod Order
+pub mod There
+pub mod Given

@@ -4,6 +4,10 @@ ghost use Rattle.std.specs.Prelude.{◌≡◌, ◌≤◌, ◌<◌, ◌+◌, ◌^
 ghost use Rattle.surf_obj.specs.Surface.{point_at};
 ghost use Rattle.blt_kernel.specs.Drawing.{ink_at, InkFits};
 
+ghost use Rattle.brush_obj.specs.Brush.{brush_value};
+ghost use Rattle.geom_base.specs.declared.point.Point.{Point};
+ghost use Rattle.pix_format.specs.Value.{colours_of};
+
 use brush_obj::BrushFace;
 use geom_base::Point;
 use pix_format::{ColourTable, Format};
@@ -17,6 +21,29 @@ pub enum Ink<'a> {
         table: &'a ColourTable,
         origin: Point,
     },
+}
+
+impl<'a> Ink<'a> {
+    /// What is painted with for a brush on a target of this format and table.
+    pub fn of(
+        face: &'a BrushFace,
+        format: Format,
+        table: &'a ColourTable,
+        origin: Point,
+    ) -> Ink<'a>
+        requires { length table.now ≡ colours_of format }
+        ensures fits { InkFits result format }
+        ensures values { (p : Point) → ink_at result format p ≡ brush_value face.now format table.now origin p }
+    {
+        match face.solid_value(format, table) {
+            Some(value) => Ink::Solid(value),
+            None => Ink::Face {
+                face,
+                table,
+                origin,
+            },
+        }
+    }
 }
 
 impl Ink<'_> {

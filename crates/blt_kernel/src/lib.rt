@@ -3,7 +3,11 @@
 
 mod across;
 mod drawing;
+mod edges;
 mod ink;
 mod mask;
+mod paint;
 mod rows;
 mod source;
+
+pub use paint::paint_rect;

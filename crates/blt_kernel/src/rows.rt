@@ -6,6 +6,7 @@ ghost use Rattle.blt_kernel.specs.Drawing.{CanDraw, IsDrawn};
 ghost use Rattle.blt_kernel.specs.Order.{KeepsSource};
 
 use crate::drawing::Drawing;
+use crate::edges::Edges;
 use surf_obj::LentSurf;
 
 /// The most pixels that are drawn at once.
@@ -15,21 +16,18 @@ const RUN: u32 = 256;
 pub fn draw_box(
     drawing: &Drawing<'_>,
     dst: &mut LentSurf<'_>,
-    left: u32,
-    top: u32,
-    right: u32,
-    bottom: u32,
+    edges: &Edges,
     forward: bool,
 )
-    requires across { left ≤ right }
-    requires down { top ≤ bottom }
-    requires able { CanDraw drawing.now (size_of dst.old) (format_of dst.old) left top right bottom }
+    requires across { edges.now.left ≤ edges.now.right }
+    requires down { edges.now.top ≤ edges.now.bottom }
+    requires able { CanDraw drawing.now (size_of dst.old) (format_of dst.old) edges.now.left edges.now.top edges.now.right edges.now.bottom }
     requires order { KeepsSource drawing.now.source forward }
-    ensures { IsDrawn drawing.now left top right bottom dst.old dst.new }
+    ensures { IsDrawn drawing.now edges.now.left edges.now.top edges.now.right edges.now.bottom dst.old dst.new }
 {
-    for i in 0..bottom - top {
-        let y = part_start(top, bottom, i, 1, forward);
-        draw_row(drawing, dst, left, right, y, forward);
+    for i in 0..edges.bottom - edges.top {
+        let y = part_start(edges.top, edges.bottom, i, 1, forward);
+        draw_row(drawing, dst, edges.left, edges.right, y, forward);
     }
 }
 

@@ -9,6 +9,6 @@ use Rattle.blt_kernel.proofs.rows.draw_box.Given as goal
 -- the first rows are drawn
 abbrev pub invariant-loop-i : goal.invariant-loop-i
 invariant-loop-i l = record {
-  values : values_of l.dst ≡ redrawn (size_of l.fn.dst) (values_of l.fn.dst) (λ p. is_in p (rows_done l.forward l.left l.top l.right l.bottom l.i)) (drawn l.drawing (size_of l.fn.dst) (format_of l.fn.dst) (values_of l.fn.dst));
+  values : values_of l.dst ≡ redrawn (size_of l.fn.dst) (values_of l.fn.dst) (λ p. is_in p (rows_done l.forward l.edges.left l.edges.top l.edges.right l.edges.bottom l.i)) (drawn l.drawing (size_of l.fn.dst) (format_of l.fn.dst) (values_of l.fn.dst));
   only : OnlyPixels l.fn.dst l.dst;
 }
