@@ -4,3 +4,4 @@ pub mod DrawLemmas
 pub mod OrderLemmas
 pub mod PartLemmas
 pub mod KernelLemmas
+pub mod SpanLemmas

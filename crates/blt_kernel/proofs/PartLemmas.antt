@@ -27,6 +27,7 @@ use Rattle.blt_kernel.specs.declared.mask.Mask.{Mask}
 use Rattle.blt_kernel.specs.declared.source.Source.{Source}
 use Rattle.blt_kernel.proofs.JoinLemmas.{joined}
 use Rattle.blt_kernel.proofs.OrderLemmas.{NotBefore, ahead}
+use Rattle.blt_kernel.proofs.SpanLemmas.{not_negative}
 
 -- what is there for a box is there for its parts
 pub Reaches-part : (across : Across) (size : Size) (l t r b l' t' r' b' : ℕ) → Reaches across size l t r b → l ≤ l' → t ≤ t' → r' ≤ r → b' ≤ b → Reaches across size l' t' r' b'
@@ -58,10 +59,6 @@ CanDraw-part d size format l t r b l' t' r' b' h hl ht hr hb = record {
 pub CanDraw-kept : (d : Drawing) (start now : LentSurf) (l t r b : ℕ) → OnlyPixels start now → CanDraw d (size_of start) (format_of start) l t r b → CanDraw d (size_of now) (format_of now) l t r b
 CanDraw-kept d start now l t r b only can =
     subst (λ (f : Format). CanDraw d (size_of now) f l t r b) (sym (OnlyPixels-format start now only)) (subst (λ (s : Size). CanDraw d s (format_of start) l t r b) (sym (OnlyPixels-size start now only)) can)
-
-not_negative : (z : ℤ) → pos 0 ≤ℤ z → pos (unsigned_abs z) ≡ z
-not_negative (pos n) h = refl
-not_negative (negsuc n) h = absurd (omega (arith, ints))
 
 -- a source that was not drawn on yet has the values that it had
 value_kept : (lent : Option (Bor LentView)) (across : Across) (forward : Bool) (size : Size) (old now : List ℕ) (done : Point → Bool) (new : Point → ℕ → Option ℕ) (l t r b x y : ℕ) → length old ≡ size.w * size.h →

@@ -1,7 +1,9 @@
 //! Points of a source or a mask that belong to points of a target.
 
-ghost use Rattle.std.specs.Prelude.{◌≡◌, ◌≤ℤ◌, pos};
+ghost use Rattle.std.specs.Prelude.{◌≡◌, ◌≤◌, ◌<◌, ◌↔◌, ℕ, ◌≤ℤ◌, ◌<ℤ◌, ◌-ℤ◌, ◌+ℤ◌, pos};
+ghost use Rattle.std.specs.Int.{int_max, int_min};
 ghost use Rattle.blt_kernel.specs.Across.{place_across};
+ghost use Rattle.blt_kernel.specs.Order.{IsAhead};
 
 use geom_base::{Point, Rect};
 
@@ -30,6 +32,65 @@ impl Across {
     {
         placed(self.rect.top, self.at.y, y)
     }
+
+    /// Whether no point of a surface that is drawn on itself is read after it was drawn, if its rows are drawn from the top and
+    /// from the left. If not, they may be drawn from the bottom and from the right.
+    pub fn is_ahead(&self) -> bool
+        ensures { IsAhead self.now result }
+    {
+        if self.at.y == self.rect.top {
+            return self.at.x >= self.rect.left;
+        }
+        self.at.y > self.rect.top
+    }
+}
+
+/// A part of a row or a column: from one coordinate to before another.
+#[derive(Clone, Copy)]
+struct Span {
+    from: u32,
+    to: u32,
+}
+
+/// The part of a span whose coordinates belong to some of a surface that has `len` of them.
+fn cut_span(span: Span, corner: i32, at: i32, len: u32) -> Span
+    requires order { span.from ≤ span.to }
+    requires within { span.to ≤ 4096 }
+    requires len { len ≤ 4096 }
+    ensures order { result.from ≤ result.to }
+    ensures part { (span.from ≤ result.from) × (result.to ≤ span.to) }
+    ensures points { (x : ℕ) → ((result.from ≤ x) × (x < result.to)) ↔ ((span.from ≤ x) × (x < span.to) × (pos 0 ≤ℤ place_across corner at (pos x)) × (place_across corner at (pos x) <ℤ pos len)) }
+    ensures there { result.from < result.to → (pos 0 ≤ℤ place_across corner at (pos result.from)) × (place_across corner at (pos result.to) ≤ℤ pos len) }
+{
+    let from = first_there(span.from, corner, at);
+    let to = last_there(span.to, corner, at, len);
+    if to <= from {
+        return Span {
+            from: span.from,
+            to: span.from,
+        };
+    }
+    Span {
+        from: from as u32,
+        to: to as u32,
+    }
+}
+
+/// The first coordinate from one on, to which none below 0 belongs.
+fn first_there(from: u32, corner: i32, at: i32) -> i64
+    requires { from ≤ 4096 }
+    ensures { result ≡ int_max (pos from) (corner -ℤ at) }
+{
+    i64::from(from).max(i64::from(corner) - i64::from(at))
+}
+
+/// The end of the coordinates before another, to which none from `len` on belongs.
+fn last_there(to: u32, corner: i32, at: i32, len: u32) -> i64
+    requires to { to ≤ 4096 }
+    requires len { len ≤ 4096 }
+    ensures { result ≡ int_min (pos to) ((pos len -ℤ at) +ℤ corner) }
+{
+    i64::from(to).min(i64::from(len) - i64::from(at) + i64::from(corner))
 }
 
 /// The coordinate that belongs to one of the target.
