@@ -5,3 +5,4 @@ pub mod OrderLemmas
 pub mod PartLemmas
 pub mod KernelLemmas
 pub mod SpanLemmas
+pub mod ThereLemmas

@@ -3,3 +3,4 @@ pub mod Drawing
 pub mod Order
 pub mod There
 pub mod Given
+pub mod Boxes

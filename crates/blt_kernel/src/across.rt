@@ -1,11 +1,16 @@
 //! Points of a source or a mask that belong to points of a target.
 
-ghost use Rattle.std.specs.Prelude.{◌≡◌, ◌≤◌, ◌<◌, ◌↔◌, ℕ, ◌≤ℤ◌, ◌<ℤ◌, ◌-ℤ◌, ◌+ℤ◌, pos};
+ghost use Rattle.std.specs.Prelude.{◌≡◌, ◌≤◌, ◌<◌, ◌↔◌, ◌&&◌, ℕ, ◌≤ℤ◌, ◌<ℤ◌, ◌-ℤ◌, ◌+ℤ◌, pos};
 ghost use Rattle.std.specs.Int.{int_max, int_min};
 ghost use Rattle.blt_kernel.specs.Across.{place_across};
+ghost use Rattle.blt_kernel.specs.Boxes.{box_from, ArePart, HasPoint, BoxReaches};
 ghost use Rattle.blt_kernel.specs.Order.{IsAhead};
+ghost use Rattle.blt_kernel.specs.There.{is_there};
+ghost use Rattle.geom_base.specs.Points.{is_in};
+ghost use Rattle.surf_obj.specs.Surface.{point_at};
 
-use geom_base::{Point, Rect};
+use crate::edges::Edges;
+use geom_base::{Point, Rect, Size};
 
 /// Which points of a source or a mask belong to those of a target: `at` to the corner of `rect`, and so on.
 #[derive(Clone, Copy)]
@@ -31,6 +36,36 @@ impl Across {
         ensures { pos result ≡ place_across self.now.rect.top self.now.at.y (pos y) }
     {
         placed(self.rect.top, self.at.y, y)
+    }
+
+    /// The part of a box to which points of a surface of a size belong.
+    pub fn cut(&self, size: Size, edges: &Edges) -> Edges
+        requires width { size.w ≤ 4096 }
+        requires height { size.h ≤ 4096 }
+        requires across { edges.now.left ≤ edges.now.right }
+        requires right { edges.now.right ≤ 4096 }
+        requires down { edges.now.top ≤ edges.now.bottom }
+        requires bottom { edges.now.bottom ≤ 4096 }
+        ensures part { ArePart edges.now result }
+        ensures points { (x y : ℕ) → is_in (point_at x y) (box_from result) ≡ (is_in (point_at x y) (box_from edges.now) && is_there self.now size (point_at x y)) }
+        ensures there { HasPoint result → BoxReaches self.now size result }
+    {
+        let columns = Span {
+            from: edges.left,
+            to: edges.right,
+        };
+        let columns = cut_span(columns, self.rect.left, self.at.x, size.w);
+        let rows = Span {
+            from: edges.top,
+            to: edges.bottom,
+        };
+        let rows = cut_span(rows, self.rect.top, self.at.y, size.h);
+        Edges {
+            left: columns.from,
+            top: rows.from,
+            right: columns.to,
+            bottom: rows.to,
+        }
     }
 
     /// Whether no point of a surface that is drawn on itself is read after it was drawn, if its rows are drawn from the top and

@@ -2,6 +2,7 @@
 
 ghost use Rattle.std.specs.Prelude.{◌≡◌, ◌≤◌, ◌+◌, IfSome, length};
 ghost use Rattle.surf_obj.specs.Lent.{size_of, format_of};
+ghost use Rattle.blt_kernel.specs.Order.{KeepsSource};
 ghost use Rattle.blt_kernel.specs.Drawing.{CanDraw, IsDrawn, IsFill, GivesRun};
 
 use crate::ink::Ink;
@@ -20,6 +21,17 @@ pub struct Drawing<'a> {
 }
 
 impl Drawing<'_> {
+    /// The order in which each point of the target is read before it is drawn: from the top and from the left, or else from the
+    /// bottom and from the right.
+    pub fn is_forward(&self) -> bool
+        ensures { KeepsSource self.now.source result }
+    {
+        match &self.source {
+            Some(source) => source.is_ahead(),
+            None => true,
+        }
+    }
+
     /// Draws a run of at most 256 pixels.
     pub fn draw_run(&self, dst: &mut LentSurf<'_>, x: u32, y: u32, len: usize)
         requires short { len ≤ 256 }

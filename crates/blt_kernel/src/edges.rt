@@ -1,7 +1,8 @@
 //! Rectangles in columns and rows.
 
-ghost use Rattle.std.specs.Prelude.{◌≡◌, ◌≤ℤ◌, pos};
+ghost use Rattle.std.specs.Prelude.{◌≡◌, ◌↔◌, ◌≤ℤ◌, pos, IsTrue};
 ghost use Rattle.geom_base.specs.Points.{box_of};
+ghost use Rattle.blt_kernel.specs.Boxes.{HasPoint};
 
 use geom_base::Rect;
 
@@ -29,6 +30,13 @@ impl Edges {
             right: coordinate(rect.right),
             bottom: coordinate(rect.bottom),
         }
+    }
+
+    /// Whether a point is in it.
+    pub fn has_point(&self) -> bool
+        ensures { IsTrue result ↔ HasPoint self.now }
+    {
+        self.left < self.right && self.top < self.bottom
     }
 }
 

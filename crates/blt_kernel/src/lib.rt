@@ -9,5 +9,6 @@ mod mask;
 mod paint;
 mod rows;
 mod source;
+mod there;
 
 pub use paint::paint_rect;

@@ -6,8 +6,10 @@ ghost use Rattle.surf_obj.specs.Lent.{values_of, size_of, format_of};
 ghost use Rattle.surf_obj.specs.Surface.{point_at};
 ghost use Rattle.blt_kernel.specs.Drawing.{SourceFits, source_at, source_or_none, format_from, size_from, values_from};
 ghost use Rattle.blt_kernel.specs.Across.{Reaches, value_across};
+ghost use Rattle.blt_kernel.specs.Order.{KeepsUnlent};
 
 use crate::across::Across;
+use geom_base::Size;
 use pix_format::XlateObj;
 use surf_obj::{LentSurf, LentView};
 
@@ -21,6 +23,27 @@ pub struct Source<'a> {
 }
 
 impl Source<'_> {
+    /// The source's size, for a target of a size.
+    pub fn size(&self, target: Size) -> Size
+        ensures { result ≡ size_from self.now.lent target }
+    {
+        match self.lent {
+            Some(view) => view.size(),
+            None => target,
+        }
+    }
+
+    /// Whether a drawing with this source reads each point of the target before it draws there, if it goes from the top and from
+    /// the left. If not, it does so from the bottom and from the right.
+    pub fn is_ahead(&self) -> bool
+        ensures { KeepsUnlent self.now.lent self.now.across result }
+    {
+        match self.lent {
+            Some(_) => true,
+            None => self.across.is_ahead(),
+        }
+    }
+
     /// Reads the source's values for a run of the target, as the target keeps them.
     pub fn read_run(&self, dst: &LentSurf<'_>, x: u32, y: u32, out: &mut [u32])
         requires { SourceFits (size_of dst.now) (format_of dst.now) x y (x + length out.old) (y + 1) self.now }
