@@ -6,3 +6,4 @@ pub mod PartLemmas
 pub mod KernelLemmas
 pub mod SpanLemmas
 pub mod ThereLemmas
+pub mod BltLemmas

@@ -1,6 +1,8 @@
 -- What kernels are handed, as the operands of a call.
-use Rattle.std.specs.Prelude.{◌≡◌, ℕ, List, Option, Some, None}
+use Rattle.std.specs.Prelude.{◌≡◌, ℕ, List, Bool, Option, Some, None, option_map, if◌then◌else◌}
 use Rattle.std.specs.Borrow.{Bor}
+use Rattle.geom_base.specs.declared.point.Point.{Point}
+use Rattle.geom_base.specs.declared.rect.Rect.{Rect}
 use Rattle.geom_base.specs.declared.size.Size.{Size}
 use Rattle.geom_base.specs.declared.target.Target.{Target}
 use Rattle.pix_format.specs.declared.format.Format.{Format}
@@ -11,8 +13,12 @@ use Rattle.surf_obj.specs.Surface.{Surface}
 use Rattle.surf_obj.specs.View.{view_size, view_format, view_values}
 use Rattle.surf_obj.specs.declared.lent.LentSurf.{LentSurf}
 use Rattle.surf_obj.specs.declared.view.LentView.{LentView}
+use Rattle.brush_obj.specs.Brush.{brush_value}
 use Rattle.brush_obj.specs.Calls.{Operands}
 use Rattle.brush_obj.specs.declared.face.BrushFace.{BrushFace}
+use Rattle.blt_kernel.specs.declared.across.Across.{Across}
+use Rattle.blt_kernel.specs.declared.mask.Mask.{Mask}
+use Rattle.blt_kernel.specs.declared.source.Source.{Source}
 
 -- a surface of this size with these values
 abbrev pub IsShown : Size → List ℕ → Option Surface → Type 0
@@ -53,3 +59,19 @@ pub record BltsWith (dst : LentSurf) (src : Option (Bor LentView)) (held : Optio
   pub copies : CopiesWith dst src held xlate o
   pub paints : PaintsWith (format_of dst) table brush o
   pub bits : IsMask mask o.mask
+
+-- which points belong to those of a target, where `at` belongs to the corner of a rectangle
+abbrev pub across_from : Rect → Point → Across
+across_from rect at = record { rect = rect; at = at }
+
+-- the source that is drawn, where one is needed
+abbrev pub source_given : Bool → Option (Bor LentView) → Across → Bor Translation → Option Source
+source_given needed lent across xlate = if needed then Some (record { lent = lent; across = across; xlate = xlate }) else None
+
+-- the mask that chooses, where one is needed
+abbrev pub mask_given : Bool → Option (Bor LentView) → Across → Option Mask
+mask_given needed lent across = if needed then option_map (λ (v : Bor LentView). record { view = v; across = across }) lent else None
+
+-- the brush's value at a point, where a pattern is needed
+abbrev pub pattern_given : Bool → BrushFace → Format → List Rgb → Point → Point → ℕ
+pattern_given needed face format table origin p = if needed then brush_value face format table origin p else 0

@@ -1,8 +1,10 @@
 //! Brushes on a surface.
 
 ghost use Rattle.std.specs.Prelude.{◌≡◌, ◌≤◌, ◌<◌, ◌+◌, ◌^◌, EachIndex, length, slice_index};
+ghost use Rattle.rop_mix.specs.Needs.{pattern_needed};
 ghost use Rattle.surf_obj.specs.Surface.{point_at};
 ghost use Rattle.blt_kernel.specs.Drawing.{ink_at, InkFits};
+ghost use Rattle.blt_kernel.specs.Given.{pattern_given};
 
 ghost use Rattle.brush_obj.specs.Brush.{brush_value};
 ghost use Rattle.geom_base.specs.declared.point.Point.{Point};
@@ -11,6 +13,7 @@ ghost use Rattle.pix_format.specs.Value.{colours_of};
 use brush_obj::BrushFace;
 use geom_base::Point;
 use pix_format::{ColourTable, Format};
+use rop_mix::{Rop4, needs_pattern};
 
 /// What is painted with: one value, or a brush with the target's table and the point where its square begins.
 #[derive(Clone, Copy)]
@@ -44,6 +47,24 @@ impl<'a> Ink<'a> {
             },
         }
     }
+}
+
+/// What a raster operation paints with, which is the value 0 where it needs no pattern.
+pub fn ink_for<'a>(
+    rop: Rop4,
+    face: &'a BrushFace,
+    format: Format,
+    table: &'a ColourTable,
+    origin: Point,
+) -> Ink<'a>
+    requires { length table.now ≡ colours_of format }
+    ensures fits { InkFits result format }
+    ensures values { (p : Point) → ink_at result format p ≡ pattern_given (pattern_needed rop.code) face.now format table.now origin p }
+{
+    if !needs_pattern(rop) {
+        return Ink::Solid(0);
+    }
+    Ink::of(face, format, table, origin)
 }
 
 impl Ink<'_> {

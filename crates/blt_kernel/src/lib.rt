@@ -2,6 +2,8 @@
 #![tactic(auto)]
 
 mod across;
+mod blt;
+mod copy;
 mod drawing;
 mod edges;
 mod ink;
@@ -10,5 +12,7 @@ mod paint;
 mod rows;
 mod source;
 mod there;
+
+pub use blt::bit_blt_rect;
 
 pub use paint::paint_rect;

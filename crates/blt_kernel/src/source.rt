@@ -1,16 +1,19 @@
 //! Sources.
 
-ghost use Rattle.std.specs.Prelude.{◌≡◌, ◌<◌, ◌+◌, ◌^◌, IfSome, EachIndex, All, length, slice_index};
+ghost use Rattle.std.specs.Prelude.{◌≡◌, ◌<◌, ◌+◌, ◌^◌, ◌↔◌, IsTrue, None, IfSome, EachIndex, All, length, slice_index};
 ghost use Rattle.pix_format.specs.Value.{bits_of};
+ghost use Rattle.rop_mix.specs.Needs.{source_needed};
 ghost use Rattle.surf_obj.specs.Lent.{values_of, size_of, format_of};
 ghost use Rattle.surf_obj.specs.Surface.{point_at};
 ghost use Rattle.blt_kernel.specs.Drawing.{SourceFits, source_at, source_or_none, format_from, size_from, values_from};
 ghost use Rattle.blt_kernel.specs.Across.{Reaches, value_across};
+ghost use Rattle.blt_kernel.specs.Given.{source_given};
 ghost use Rattle.blt_kernel.specs.Order.{KeepsUnlent};
 
 use crate::across::Across;
-use geom_base::Size;
+use geom_base::{Size, Target};
 use pix_format::XlateObj;
+use rop_mix::{Rop4, needs_source};
 use surf_obj::{LentSurf, LentView};
 
 /// The pixels that are drawn, and how they become values of the target.
@@ -67,6 +70,35 @@ impl Source<'_> {
             None => dst.read_run(x, y, out),
         }
     }
+}
+
+/// Whether a raster operation needs a source, and neither is one lent nor is one held.
+pub fn lacks_source(rop: Rop4, held: Option<Target>, lent: Option<&LentView<'_>>) -> bool
+    ensures { IsTrue result ↔ (IsTrue (source_needed rop.code) × (held ≡ None) × (lent.entry ≡ None)) }
+{
+    match lent {
+        Some(_) => false,
+        None => held.is_none() && needs_source(rop),
+    }
+}
+
+/// The source of a raster operation, or none where it needs none.
+pub fn source_for<'a>(
+    rop: Rop4,
+    lent: Option<&'a LentView<'a>>,
+    across: Across,
+    xlate: &'a XlateObj,
+) -> Option<Source<'a>>
+    ensures { result ≡ source_given (source_needed rop.code) lent.entry across xlate.entry }
+{
+    if !needs_source(rop) {
+        return None;
+    }
+    Some(Source {
+        lent,
+        across,
+        xlate,
+    })
 }
 
 /// Reads a source for a run of the target, or nothing but 0 where there is none.
