@@ -20,13 +20,16 @@ use Rattle.surf_obj.specs.declared.view.LentView.{LentView}
 use Rattle.surf_obj.proofs.StepLemmas.{redrawn_grid, redrawn_none}
 use Rattle.surf_obj.proofs.LentLemmas.{length-values_of}
 use Rattle.brush_obj.specs.Brush.{brush_value}
-use Rattle.brush_obj.specs.Calls.{Operands, new_of_blt, combined, operand, source_value, mask_value, value_in, point_across}
+use Rattle.brush_obj.specs.Calls.{Operands, new_of_blt, combined, operand, source_value, mask_value, value_in, point_across, blt_of, new_of_copy, source_alone}
 use Rattle.brush_obj.specs.declared.blt_call.BltCall.{BltCall}
+use Rattle.brush_obj.specs.declared.copy_call.CopyCall.{CopyCall}
 use Rattle.blt_kernel.specs.Drawing.{drawn_value, ink_at, source_or_none, mask_or_none, IsTranslated}
-use Rattle.blt_kernel.specs.Given.{IsShown, IsSource, IsMask, TranslatesFrom, source_given, mask_given, across_from}
+use Rattle.blt_kernel.specs.Given.{IsShown, IsSource, IsMask, TranslatesFrom, source_given, mask_given, across_from, CopiesWith}
 use Rattle.blt_kernel.specs.There.{source_is_there, mask_is_there, drawn_there}
 use Rattle.blt_kernel.specs.declared.across.Across.{Across}
 use Rattle.blt_kernel.specs.declared.drawing.Drawing.{Drawing}
+use Rattle.blt_kernel.specs.declared.ink.Ink.{Ink}
+use Rattle.blt_kernel.specs.declared.ink.Ink.TheVariants.{Solid}
 use Rattle.blt_kernel.specs.declared.mask.Mask.{Mask}
 use Rattle.blt_kernel.specs.declared.source.Source.{Source}
 
@@ -144,3 +147,28 @@ source_absent None None dst s h l is = is
 pub mask_absent : (lent : Option (Bor LentView)) (m : Option Surface) → lent ≡ None → IsMask lent m → m ≡ None
 mask_absent (Some view) m l is = absurd (cc)
 mask_absent None m l is = is
+
+-- a copy needs neither a mask nor a pattern
+alone_needs : source_needed source_alone ≡ true
+unfolding source_needed
+alone_needs = refl
+
+alone_spares_mask : mask_needed source_alone ≡ false
+unfolding mask_needed
+alone_spares_mask = refl
+
+alone_spares_pattern : pattern_needed source_alone ≡ false
+unfolding pattern_needed
+alone_spares_pattern = refl
+
+-- a source that is there gives what a copy says
+pub copy_gives_call : (d : Drawing) (call : CopyCall) (o : Operands) (dst : LentSurf) (src : Option (Bor LentView)) (xlate : Bor Translation) (p : Point) (was : ℕ) → d.rop.code ≡ source_alone →
+    d.source ≡ source_given (source_needed source_alone) src (across_from call.rect call.src) xlate → d.mask ≡ None → d.ink ≡ Solid 0 →
+    CopiesWith dst src call.held xlate.now o → (source_needed source_alone ≡ true → call.held ≡ None → src ≡ None → ⊥) →
+    drawn_there d (size_of dst) (format_of dst) (values_of dst) p was ≡ new_of_copy call o p was
+copy_gives_call d call o dst src xlate p was code source mask ink with some =
+    blt_gives d (blt_of call) o dst src None xlate p was code source (mask ∙ sym (rw alone_spares_mask refl))
+    (ap (λ (i : Ink). ink_at i (format_of dst) p) ink ∙ sym (rw alone_spares_pattern refl)) with.source with.translation with.format (rw alone_spares_mask refl) some
+
+pub copy_no_source : (call : CopyCall) (o : Operands) (p : Point) (was : ℕ) → o.source ≡ None → new_of_copy call o p was ≡ None
+copy_no_source call o p was none = no_source (blt_of call) o p was alone_needs none

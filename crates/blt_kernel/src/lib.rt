@@ -14,5 +14,6 @@ mod source;
 mod there;
 
 pub use blt::bit_blt_rect;
+pub use copy::copy_rect;
 
 pub use paint::paint_rect;
