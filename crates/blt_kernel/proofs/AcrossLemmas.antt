@@ -1,4 +1,4 @@
-use Rattle.std.proofs.Common.{◌≡◌, ℕ, ℤ, pos, ◌+◌, ◌*◌, ◌+ℤ◌, ◌-ℤ◌, List, get_or, refl, ap, sym, arith, unsigned_abs}
+use Rattle.std.proofs.Common.{◌≡◌, ℕ, ℤ, pos, ◌+◌, ◌*◌, List, get_or, refl, ap, sym, arith, unsigned_abs}
 use Rattle.std.proofs.lemmas.Int.{ints}
 use Rattle.geom_base.specs.declared.size.Size.{Size}
 use Rattle.surf_obj.specs.Surface.{value_at, point_at}

@@ -1,8 +1,7 @@
 -- What a raster operation gives, as its call says it.
-use Rattle.std.proofs.Common.{◌≡◌, ℕ, List, Bool, true, false, cond, ◌&&◌, ◌==◌, refl, sym, ap, ◌∙◌, true≢false, Option, Some, None, IfSome, option_map, unwrap_or}
+use Rattle.std.proofs.Common.{◌≡◌, ℕ, List, Bool, true, false, cond, ◌&&◌, ◌==◌, refl, sym, ap, ◌∙◌, Option, Some, None, IfSome, option_map, unwrap_or}
 use Rattle.std.specs.Borrow.{Bor}
 use Rattle.geom_base.specs.declared.point.Point.{Point}
-use Rattle.geom_base.specs.declared.rect.Rect.{Rect}
 use Rattle.geom_base.specs.declared.size.Size.{Size}
 use Rattle.geom_base.specs.declared.target.Target.{Target}
 use Rattle.geom_base.specs.Points.{is_in}
@@ -23,7 +22,7 @@ use Rattle.brush_obj.specs.Brush.{brush_value}
 use Rattle.brush_obj.specs.Calls.{Operands, new_of_blt, combined, operand, source_value, mask_value, value_in, point_across, blt_of, new_of_copy, source_alone}
 use Rattle.brush_obj.specs.declared.blt_call.BltCall.{BltCall}
 use Rattle.brush_obj.specs.declared.copy_call.CopyCall.{CopyCall}
-use Rattle.blt_kernel.specs.Drawing.{drawn_value, ink_at, source_or_none, mask_or_none, IsTranslated}
+use Rattle.blt_kernel.specs.Drawing.{ink_at, source_or_none, mask_or_none, IsTranslated}
 use Rattle.blt_kernel.specs.Given.{IsShown, IsSource, IsMask, TranslatesFrom, source_given, mask_given, across_from, CopiesWith}
 use Rattle.blt_kernel.specs.There.{source_is_there, mask_is_there, drawn_there}
 use Rattle.blt_kernel.specs.declared.across.Across.{Across}
@@ -91,13 +90,13 @@ blt_gives d call o dst src mask xlate p was code source bits ink is xl form mask
     let pattern = cond (pattern_needed call.rop.code) (brush_value o.brush o.format o.table call.origin p) 0 in
     let n = bits_of (format_of dst) in
     let drew : drawn_there d (size_of dst) (format_of dst) (values_of dst) p was ≡ cond (source_is_there sg (size_of dst) p && mask_is_there mg p) (Some (rop4_of call.rop.code (m == 1) pattern v was n)) None
-        = ap (λ (s : Option Source). cond (source_is_there s (size_of dst) p && mask_is_there d.mask p) (Some (rop4_of d.rop.code (mask_or_none d.mask p == 1) (ink_at d.ink (format_of dst) p) (source_or_none s (size_of dst) (values_of dst) p) was n)) None) source
-        ∙ ap (λ (t : Option Mask). cond (source_is_there sg (size_of dst) p && mask_is_there t p) (Some (rop4_of d.rop.code (mask_or_none t p == 1) (ink_at d.ink (format_of dst) p) v was n)) None) bits
-        ∙ ap (λ (i : ℕ). cond (source_is_there sg (size_of dst) p && mask_is_there mg p) (Some (rop4_of d.rop.code (m == 1) i v was n)) None) ink
-        ∙ ap (λ (k : ℕ). cond (source_is_there sg (size_of dst) p && mask_is_there mg p) (Some (rop4_of k (m == 1) pattern v was n)) None) code in
+    = ap (λ (s : Option Source). cond (source_is_there s (size_of dst) p && mask_is_there d.mask p) (Some (rop4_of d.rop.code (mask_or_none d.mask p == 1) (ink_at d.ink (format_of dst) p) (source_or_none s (size_of dst) (values_of dst) p) was n)) None) source
+    ∙ ap (λ (t : Option Mask). cond (source_is_there sg (size_of dst) p && mask_is_there t p) (Some (rop4_of d.rop.code (mask_or_none t p == 1) (ink_at d.ink (format_of dst) p) v was n)) None) bits
+    ∙ ap (λ (i : ℕ). cond (source_is_there sg (size_of dst) p && mask_is_there mg p) (Some (rop4_of d.rop.code (m == 1) i v was n)) None) ink
+    ∙ ap (λ (k : ℕ). cond (source_is_there sg (size_of dst) p && mask_is_there mg p) (Some (rop4_of k (m == 1) pattern v was n)) None) code in
     let read : operand (source_needed call.rop.code) (source_value o call.rect call.src p) ≡ if_there (source_is_there sg (size_of dst) p) v
-        = ap (λ (t : Translation). operand (source_needed call.rop.code) (option_map (translated t) (value_in o.source (point_across call.rect call.src p)))) xl
-        ∙ source_operand (source_needed call.rop.code) src call.held dst o.source across xlate p is some in
+    = ap (λ (t : Translation). operand (source_needed call.rop.code) (option_map (translated t) (value_in o.source (point_across call.rect call.src p)))) xl
+    ∙ source_operand (source_needed call.rop.code) src call.held dst o.source across xlate p is some in
     drew ∙ sym (both_there call.rop.code n (source_is_there sg (size_of dst) p) (mask_is_there mg p) v m pattern was)
     ∙ sym (ap (λ (s : Option ℕ). combined call.rop.code (bits_of o.format) s (operand (mask_needed call.rop.code) (mask_value o call.rect call.mask p)) pattern was) read
     ∙ ap (λ (t : Option ℕ). combined call.rop.code (bits_of o.format) (if_there (source_is_there sg (size_of dst) p) v) t pattern was) masked

@@ -1,9 +1,9 @@
 -- What kernels give, as calls say it.
-use Rattle.std.proofs.Common.{◌≡◌, ℕ, ◌+◌, ◌*◌, ◌/◌, ◌<◌, List, refl, sym, ap, ◌∙◌, arith, Option, Some, None, unwrap_or}
+use Rattle.std.proofs.Common.{◌≡◌, ℕ, ◌*◌, ◌/◌, ◌<◌, List, refl, sym, ap, ◌∙◌, arith, Option, Some, None, unwrap_or}
 use Rattle.geom_base.specs.declared.point.Point.{Point}
 use Rattle.geom_base.specs.declared.rect.Rect.{Rect}
 use Rattle.geom_base.specs.declared.size.Size.{Size}
-use Rattle.geom_base.specs.Points.{is_in, box_of, LiesIn}
+use Rattle.geom_base.specs.Points.{is_in, LiesIn}
 use Rattle.std.proofs.lemmas.Int.{ints}
 use Rattle.blt_kernel.specs.Boxes.{box_from, LieIn}
 use Rattle.blt_kernel.specs.declared.edges.Edges.{Edges}
@@ -12,7 +12,7 @@ use Rattle.pix_format.specs.declared.rgb.Rgb.{Rgb}
 use Rattle.pix_format.specs.Value.{bits_of}
 use Rattle.rop_mix.specs.Rop.{rop3_of}
 use Rattle.surf_obj.specs.Changes.{Change}
-use Rattle.surf_obj.specs.Lent.{size_of, format_of, values_of}
+use Rattle.surf_obj.specs.Lent.{size_of, values_of}
 use Rattle.surf_obj.specs.Surface.{redrawn, value_at, point_at}
 use Rattle.surf_obj.specs.declared.lent.LentSurf.{LentSurf}
 use Rattle.surf_obj.proofs.StepLemmas.{redrawn_rule}
@@ -38,9 +38,9 @@ pub paint_gives : (d : Drawing) (call : PaintCall) (o : Operands) (size : Size) 
 paint_gives d call o size format values table face code p was none halves ink with law =
     let s = source_or_none d.source size values p in
     let gives : drawn d size format values p was ≡ Some (rop3_of code (brush_value face format table call.origin p) s was (bits_of format))
-        = ap (λ (v : ℕ). Some v) (drawn_value-unmasked d size format values p was none ∙ rw (halves, ink) refl) in
+    = ap (λ (v : ℕ). Some v) (drawn_value-unmasked d size format values p was none ∙ rw (halves, ink) refl) in
     let same : Some (rop3_of code (brush_value o.brush o.format o.table call.origin p) s was (bits_of o.format)) ≡ Some (rop3_of code (brush_value face format table call.origin p) s was (bits_of format))
-        = rw (with.face, with.kept, with.colours) refl in
+    = rw (with.face, with.kept, with.colours) refl in
     gives ∙ sym same ∙ sym (law s)
 
 -- a box of a surface redrawn by a rule is a rectangle redrawn by another, where these are the same

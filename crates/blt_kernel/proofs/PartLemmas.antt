@@ -1,5 +1,5 @@
 -- A drawing made of its parts.
-use Rattle.std.proofs.Common.{◌≡◌, ℕ, ℤ, pos, negsuc, zero, suc, ◌+◌, ◌-◌, ◌*◌, ◌<◌, ◌≤◌, ◌≤ℤ◌, Bool, true, false, cond, ◌||◌, ◌&&◌, ◌==◌, List, length, refl, sym, ap, ◌∙◌, subst, arith, Option, Some, None, IfSome, unsigned_abs}
+use Rattle.std.proofs.Common.{◌≡◌, ℕ, pos, ◌*◌, ◌<◌, ◌≤◌, Bool, true, false, ◌||◌, ◌&&◌, ◌==◌, List, length, refl, sym, ap, ◌∙◌, subst, arith, Option, Some, None, IfSome, unsigned_abs}
 use Rattle.std.specs.Borrow.{Bor}
 use Rattle.std.proofs.lemmas.Bool.Decides.{nat_tests}
 use Rattle.std.proofs.lemmas.Int.{ints}
@@ -17,10 +17,10 @@ use Rattle.surf_obj.specs.Steps.{length-redrawn}
 use Rattle.surf_obj.specs.declared.lent.LentSurf.{LentSurf}
 use Rattle.surf_obj.specs.declared.view.LentView.{LentView}
 use Rattle.surf_obj.proofs.StepLemmas.{value_at-redrawn}
-use Rattle.surf_obj.proofs.LentLemmas.{OnlyPixels-size, OnlyPixels-format, OnlyPixels-trans, length-values_of}
+use Rattle.surf_obj.proofs.LentLemmas.{OnlyPixels-size, OnlyPixels-format, length-values_of}
 use Rattle.blt_kernel.specs.Across.{place_across, Reaches, value_across}
 use Rattle.blt_kernel.specs.Drawing.{CanDraw, SourceFits, MaskFits, IsDrawn, drawn, source_or_none, mask_or_none, ink_at, size_from, values_from}
-use Rattle.blt_kernel.specs.Order.{KeepsSource, KeepsUnlent, IsAhead}
+use Rattle.blt_kernel.specs.Order.{KeepsSource, KeepsUnlent}
 use Rattle.blt_kernel.specs.declared.across.Across.{Across}
 use Rattle.blt_kernel.specs.declared.drawing.Drawing.{Drawing}
 use Rattle.blt_kernel.specs.declared.mask.Mask.{Mask}

@@ -1,8 +1,6 @@
 -- The part of a drawing for which source and mask are there.
-use Rattle.std.proofs.Common.{◌≡◌, ℕ, ℤ, pos, ◌+◌, ◌*◌, ◌<◌, ◌≤◌, ◌≤ℤ◌, ◌<ℤ◌, ◌↔◌, ◌&&◌, Bool, true, false, cond, IsTrue, List, length, refl, sym, ap, ◌∙◌, arith, Option, Some, None, IfSome, ◌⊎◌, inl, inr}
+use Rattle.std.proofs.Common.{◌≡◌, ℕ, ◌<◌, ◌≤◌, ◌↔◌, ◌&&◌, Bool, true, false, cond, IsTrue, refl, sym, ap, ◌∙◌, arith, Option, Some, None, IfSome}
 use Rattle.std.proofs.lemmas.Int.{ints}
-use Rattle.std.proofs.lemmas.Bool.Decides.{nat_tests}
-use Rattle.geom_base.specs.declared.rect.Rect.{Rect}
 use Rattle.geom_base.specs.declared.size.Size.{Size}
 use Rattle.geom_base.specs.Points.{is_in, IsIn, box_of}
 use Rattle.geom_base.proofs.PointLemmas.{is_in-IsIn}
@@ -13,7 +11,6 @@ use Rattle.surf_obj.specs.declared.lent.LentSurf.{LentSurf}
 use Rattle.surf_obj.proofs.StepLemmas.{redrawn_grid, redrawn_none}
 use Rattle.surf_obj.proofs.LentLemmas.{length-values_of}
 use Rattle.brush_obj.specs.Calls.{point_across}
-use Rattle.blt_kernel.specs.Across.{place_across}
 use Rattle.blt_kernel.specs.Boxes.{box_from, ArePart, HasPoint, LieIn, SourceReaches, MaskReaches}
 use Rattle.blt_kernel.specs.Drawing.{CanDraw, SourceFits, MaskFits, IsTranslated, InkFits, size_from, drawn}
 use Rattle.blt_kernel.specs.There.{is_there, source_is_there, mask_is_there, drawn_there}

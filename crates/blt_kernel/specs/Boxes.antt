@@ -1,5 +1,5 @@
 -- Boxes of columns and rows.
-use Rattle.std.specs.Prelude.{ℕ, ◌≤◌, ◌<◌, Option, IfSome}
+use Rattle.std.specs.Prelude.{◌≤◌, ◌<◌}
 use Rattle.geom_base.specs.declared.rect.Rect.{Rect}
 use Rattle.geom_base.specs.declared.size.Size.{Size}
 use Rattle.geom_base.specs.Points.{box_of}

@@ -1,5 +1,5 @@
 -- What a drawing gives at a point, where all that it draws with is there.
-use Rattle.std.specs.Prelude.{ℕ, List, Option, Some, None, ◌==◌, ◌≡◌, ◌≤◌, ◌<◌, ◌^◌, ◌/◌, ◌+◌, All, EachIndex, length, slice_index, IfSome}
+use Rattle.std.specs.Prelude.{ℕ, List, Option, Some, None, ◌==◌, ◌≡◌, ◌≤◌, ◌<◌, ◌^◌, ◌+◌, All, EachIndex, length, slice_index, IfSome}
 use Rattle.std.specs.Borrow.{Bor}
 use Rattle.geom_base.specs.declared.point.Point.{Point}
 use Rattle.geom_base.specs.declared.size.Size.{Size}
@@ -68,12 +68,6 @@ pub record GivesRun (d : Drawing) (dst : LentSurf) (x y : ℕ) (run : List ℕ) 
   pub values : EachIndex run (λ k. slice_index run k ≡
       drawn_value d (size_of dst) (format_of dst) (values_of dst) (point_at (x + k) y) (value_at (size_of dst) (values_of dst) (x + k) y))
   pub fit : All (λ v. v < 2 ^ bits_of (format_of dst)) run
-
--- a drawing without a mask whose code is the pattern alone, in one value
-pub record IsFill (d : Drawing) (value : ℕ) : Type 0 where
-  pub mask : d.mask ≡ None
-  pub code : d.rop.code / 256 ≡ 0xF0
-  pub ink : d.ink ≡ Solid value
 
 -- a source is translated from its format to that of the target
 pub record IsTranslated (format : Format) (s : Source) : Type 0 where

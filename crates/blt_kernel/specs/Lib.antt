@@ -4,3 +4,4 @@ pub mod Order
 pub mod There
 pub mod Given
 pub mod Boxes
+pub mod Fills

@@ -1,5 +1,5 @@
 -- In which order a drawing may go, where it reads the surface that it draws on.
-use Rattle.std.specs.Prelude.{ℕ, Bool, true, false, pos, ◌+◌, ◌-◌, ◌≡◌, ◌<ℤ◌, ◌≤ℤ◌, ◌⊎◌, Option, Some, None, if◌then◌else◌}
+use Rattle.std.specs.Prelude.{ℕ, Bool, true, false, ◌+◌, ◌-◌, ◌≡◌, ◌<ℤ◌, ◌≤ℤ◌, ◌⊎◌, Option, Some, None, if◌then◌else◌}
 use Rattle.std.specs.Borrow.{Bor}
 use Rattle.geom_base.specs.declared.rect.Rect.{Rect}
 use Rattle.geom_base.specs.Points.{box_of}

@@ -1,14 +1,16 @@
 //! Drawings: what is drawn with, and how it is combined.
 
-ghost use Rattle.std.specs.Prelude.{◌≡◌, ◌≤◌, ◌+◌, IfSome, length};
+ghost use Rattle.std.specs.Prelude.{◌≡◌, ◌≤◌, ◌+◌, IsTrue, IfSome, length};
 ghost use Rattle.surf_obj.specs.Lent.{size_of, format_of};
+ghost use Rattle.blt_kernel.specs.Fills.{FillsWith, takes_pattern_alone};
 ghost use Rattle.blt_kernel.specs.Order.{KeepsSource};
-ghost use Rattle.blt_kernel.specs.Drawing.{CanDraw, IsDrawn, IsFill, GivesRun};
+ghost use Rattle.blt_kernel.specs.Drawing.{CanDraw, IsDrawn, GivesRun};
 
 use crate::ink::Ink;
 use crate::mask::Mask;
 use crate::source::{Source, read_source};
-use rop_mix::{Rop4, apply_fill, apply_masked, apply_row, apply_solid};
+use pix_format::Format;
+use rop_mix::{Rop4, apply_fill, apply_masked, apply_row, apply_solid, rop3};
 use surf_obj::LentSurf;
 
 /// A raster operation with all that it needs.
@@ -38,22 +40,21 @@ impl Drawing<'_> {
         requires able { CanDraw self.now (size_of dst.old) (format_of dst.old) x y (x + len) (y + 1) }
         ensures { IsDrawn self.now x y (x + len) (y + 1) dst.old dst.new }
     {
-        if let Some(value) = self.fill_value() {
-            dst.fill_run(x, y, len, value);
-            return;
-        }
         let mut values = [0; 256];
         let values = &mut values[..len];
         self.combine(dst, x, y, values);
         dst.write_run(x, y, values);
     }
 
-    /// The value that all pixels get, where that is the ink alone.
-    fn fill_value(&self) -> Option<u32>
-        ensures { IfSome result (IsFill self.now) }
+    /// The value that all pixels get, where it is the same whatever the source and the old values.
+    pub fn fill_value(&self, format: Format) -> Option<u32>
+        ensures { IfSome result (FillsWith self.now format) }
     {
+        let code = self.rop.clear_code();
         match (self.mask, self.ink) {
-            (None, Ink::Solid(value)) if self.rop.clear_code() == 0xf0 => Some(value),
+            (None, Ink::Solid(pattern)) if takes_pattern_alone(code) => {
+                Some(rop3(code, pattern, 0, 0, format.bits()))
+            }
             _ => None,
         }
     }
@@ -171,4 +172,11 @@ impl Drawing<'_> {
         self.ink.fill_run(format, x, y, pattern);
         apply_row(code, pattern, own, values, format.bits());
     }
+}
+
+/// Whether a code's results depend on the pattern alone.
+fn takes_pattern_alone(code: u8) -> bool
+    ensures { IsTrue result → IsTrue (takes_pattern_alone code) }
+{
+    matches!(code, 0x00 | 0x0f | 0xf0 | 0xff)
 }

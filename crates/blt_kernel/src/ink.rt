@@ -5,7 +5,6 @@ ghost use Rattle.rop_mix.specs.Needs.{pattern_needed};
 ghost use Rattle.surf_obj.specs.Surface.{point_at};
 ghost use Rattle.blt_kernel.specs.Drawing.{ink_at, InkFits};
 ghost use Rattle.blt_kernel.specs.Given.{pattern_given};
-
 ghost use Rattle.brush_obj.specs.Brush.{brush_value};
 ghost use Rattle.geom_base.specs.declared.point.Point.{Point};
 ghost use Rattle.pix_format.specs.Value.{colours_of};
@@ -28,12 +27,7 @@ pub enum Ink<'a> {
 
 impl<'a> Ink<'a> {
     /// What is painted with for a brush on a target of this format and table.
-    pub fn of(
-        face: &'a BrushFace,
-        format: Format,
-        table: &'a ColourTable,
-        origin: Point,
-    ) -> Ink<'a>
+    pub fn of(face: &'a BrushFace, format: Format, table: &'a ColourTable, origin: Point) -> Ink<'a>
         requires { length table.now ≡ colours_of format }
         ensures fits { InkFits result format }
         ensures values { (p : Point) → ink_at result format p ≡ brush_value face.now format table.now origin p }

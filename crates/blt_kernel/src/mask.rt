@@ -38,11 +38,7 @@ pub fn lacks_mask(rop: Rop4, lent: Option<&LentView<'_>>) -> bool
 }
 
 /// The mask of a raster operation, or none where it needs none.
-pub fn mask_for<'a>(
-    rop: Rop4,
-    lent: Option<&'a LentView<'a>>,
-    across: Across,
-) -> Option<Mask<'a>>
+pub fn mask_for<'a>(rop: Rop4, lent: Option<&'a LentView<'a>>, across: Across) -> Option<Mask<'a>>
     ensures { result ≡ mask_given (mask_needed rop.code) lent.entry across }
 {
     if !needs_mask(rop) {

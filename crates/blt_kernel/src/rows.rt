@@ -13,12 +13,7 @@ use surf_obj::LentSurf;
 const RUN: u32 = 256;
 
 /// Draws in a box, its rows from the top and from the left, or from the bottom and from the right.
-pub fn draw_box(
-    drawing: &Drawing<'_>,
-    dst: &mut LentSurf<'_>,
-    edges: &Edges,
-    forward: bool,
-)
+pub fn draw_box(drawing: &Drawing<'_>, dst: &mut LentSurf<'_>, edges: &Edges, forward: bool)
     requires across { edges.now.left ≤ edges.now.right }
     requires down { edges.now.top ≤ edges.now.bottom }
     requires able { CanDraw drawing.now (size_of dst.old) (format_of dst.old) edges.now.left edges.now.top edges.now.right edges.now.bottom }
@@ -46,6 +41,10 @@ fn draw_row(
     ensures { IsDrawn drawing.now left y right (y + 1) dst.old dst.new }
 {
     let width = right - left;
+    if let Some(value) = drawing.fill_value(dst.format()) {
+        dst.fill_run(left, y, width as usize, value);
+        return;
+    }
     let mut done = 0;
     while done < width {
         let len = RUN.min(width - done);

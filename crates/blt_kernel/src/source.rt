@@ -102,13 +102,7 @@ pub fn source_for<'a>(
 }
 
 /// Reads a source for a run of the target, or nothing but 0 where there is none.
-pub fn read_source(
-    source: &Option<Source<'_>>,
-    dst: &LentSurf<'_>,
-    x: u32,
-    y: u32,
-    out: &mut [u32],
-)
+pub fn read_source(source: &Option<Source<'_>>, dst: &LentSurf<'_>, x: u32, y: u32, out: &mut [u32])
     requires { IfSome source.now (SourceFits (size_of dst.now) (format_of dst.now) x y (x + length out.old) (y + 1)) }
     ensures { EachIndex out.new (λ k. slice_index out.new k ≡ source_or_none source.now (size_of dst.now) (values_of dst.now) (point_at (x + k) y)) }
 {

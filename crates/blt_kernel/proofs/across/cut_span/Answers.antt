@@ -1,7 +1,6 @@
-use Rattle.std.proofs.Common.{◌≡◌, ◌∙◌, arith, rules, pos, SFits, w64, w32, ◌+ℤ◌, ◌-ℤ◌}
-use Rattle.std.specs.Int.{int_max, int_min}
-use Rattle.std.proofs.lemmas.Int.{ints, clamps, to_z-of_z}
-use Rattle.blt_kernel.proofs.SpanLemmas.{there_none, there_some, there_part, there_ends, not_negative, from_not_negative, to_not_negative}
+use Rattle.std.proofs.Common.{arith, rules, SFits, w64, w32}
+use Rattle.std.proofs.lemmas.Int.{ints, to_z-of_z}
+use Rattle.blt_kernel.proofs.SpanLemmas.{there_none, there_some, there_ends, not_negative, from_not_negative, to_not_negative}
 use Rattle.blt_kernel.proofs.across.cut_span.Goals as goal
 
 pub returns-then-to-from-clause-points : goal.returns-then-to-from-clause-points

@@ -1,13 +1,10 @@
-use Rattle.std.proofs.Common.{◌≡◌, ◌∙◌, ap, refl, sym, true, false, true≢false, None, Some, Bool, Option, IfSome, subst}
-use Rattle.geom_base.specs.declared.target.Target.{Target}
+use Rattle.std.proofs.Common.{◌≡◌, ◌∙◌, ap, refl, sym, true≢false, None}
 use Rattle.geom_base.specs.Points.{is_in}
-use Rattle.rop_mix.specs.Needs.{source_needed, mask_needed, pattern_needed}
+use Rattle.rop_mix.specs.Needs.{source_needed}
 use Rattle.surf_obj.specs.Lent.{size_of, format_of, values_of}
-use Rattle.brush_obj.specs.Brush.{brush_value}
 use Rattle.brush_obj.specs.Calls.{new_of_blt}
 use Rattle.blt_kernel.specs.Boxes.{box_from}
-use Rattle.blt_kernel.specs.Drawing.{IsTranslated}
-use Rattle.blt_kernel.specs.Given.{IsSource, IsMask, across_from, source_given}
+use Rattle.blt_kernel.specs.Given.{across_from}
 use Rattle.blt_kernel.specs.There.{drawn_there}
 use Rattle.blt_kernel.proofs.BltLemmas.{blt_gives, mask_given_operand, no_source, no_mask, untouched_redrawn, source_translated, source_absent, mask_absent}
 use Rattle.blt_kernel.proofs.KernelLemmas.{box_redrawn}

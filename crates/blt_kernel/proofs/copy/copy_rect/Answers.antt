@@ -1,4 +1,4 @@
-use Rattle.std.proofs.Common.{◌≡◌, ◌∙◌, ap, refl, sym, true, true≢false, None}
+use Rattle.std.proofs.Common.{◌≡◌, ◌∙◌, ap, refl, sym, true≢false, None}
 use Rattle.geom_base.specs.Points.{is_in}
 use Rattle.rop_mix.specs.Needs.{source_needed}
 use Rattle.surf_obj.specs.Lent.{size_of, format_of, values_of}

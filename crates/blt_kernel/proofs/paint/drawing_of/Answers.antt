@@ -1,5 +1,5 @@
-use Rattle.std.proofs.Common.{None, ◌≡◌, ◌/◌, ◌<◌, ◌∙◌, ap, refl, arith, rules}
-use Rattle.blt_kernel.proofs.KernelLemmas.{both_halves, paint_gives}
+use Rattle.std.proofs.Common.{None, ◌≡◌, ◌/◌, ◌<◌, refl, arith}
+use Rattle.blt_kernel.proofs.KernelLemmas.{paint_gives}
 use Rattle.blt_kernel.proofs.paint.drawing_of.Goals as goal
 
 pub returns-clause-values : goal.returns-clause-values

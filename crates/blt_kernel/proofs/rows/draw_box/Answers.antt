@@ -1,6 +1,6 @@
-use Rattle.std.proofs.Common.{◌≡◌, ◌≤◌, ◌+◌, ◌-◌, ◌∙◌, sym, ap, arith, rules}
+use Rattle.std.proofs.Common.{◌≡◌, ◌≤◌, ◌+◌, ◌∙◌, sym, ap, arith}
 use Rattle.geom_base.specs.declared.rect.Rect.{Rect}
-use Rattle.geom_base.specs.Points.{is_in, box_of}
+use Rattle.geom_base.specs.Points.{is_in}
 use Rattle.surf_obj.specs.Lent.{size_of, format_of, values_of}
 use Rattle.surf_obj.specs.Surface.{redrawn}
 use Rattle.surf_obj.proofs.StepLemmas.{redrawn_none}

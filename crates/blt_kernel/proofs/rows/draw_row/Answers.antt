@@ -1,6 +1,6 @@
-use Rattle.std.proofs.Common.{◌≡◌, ◌≤◌, ◌+◌, ◌-◌, ◌∙◌, sym, ap, arith, rules}
+use Rattle.std.proofs.Common.{◌≡◌, ◌≤◌, ◌+◌, ◌-◌, ◌∙◌, sym, ap, arith}
 use Rattle.geom_base.specs.declared.rect.Rect.{Rect}
-use Rattle.geom_base.specs.Points.{is_in, box_of}
+use Rattle.geom_base.specs.Points.{is_in}
 use Rattle.surf_obj.specs.Lent.{size_of, format_of, values_of}
 use Rattle.surf_obj.specs.Surface.{redrawn}
 use Rattle.surf_obj.proofs.StepLemmas.{redrawn_none}
@@ -8,6 +8,7 @@ use Rattle.surf_obj.proofs.LentLemmas.{OnlyPixels-refl, OnlyPixels-trans, length
 use Rattle.blt_kernel.specs.Drawing.{drawn}
 use Rattle.blt_kernel.specs.Order.{columns_done}
 use Rattle.blt_kernel.proofs.OrderLemmas.{columns_none, columns_more, columns_ahead, columns_all, part_within}
+use Rattle.blt_kernel.proofs.DrawLemmas.{fill_gives}
 use Rattle.blt_kernel.proofs.PartLemmas.{CanDraw-part, CanDraw-kept, drawn_more}
 use Rattle.blt_kernel.proofs.rows.draw_row.Goals as goal
 
@@ -47,4 +48,12 @@ returns c =
       values = c.loop-done.invariant.values ∙ ap (λ (r : Rect). redrawn (size_of c.args.dst.now) (values_of c.args.dst.now) (λ p. is_in p r) (drawn c.args.drawing.now (size_of c.args.dst.now) (format_of c.args.dst.now) (values_of c.args.dst.now)))
           (columns_all c.args.forward c.args.left c.args.right c.args.y c.loop-done.done end);
       only = c.loop-done.invariant.only;
+    }
+
+pub returns-in-Some : goal.returns-in-Some
+returns-in-Some c =
+    let end : c.args.left + (c.args.right - c.args.left) ≡ c.args.right = omega arith in
+    record {
+      values = c.fill_run.ensures.values ∙ fill_gives c.args.drawing.now c.args.dst.now c.args.left c.args.right c.args.y _ c.in-Some.value end (rw c.format.ensures at c.in-Some.ensures);
+      only = c.fill_run.ensures.only;
     }

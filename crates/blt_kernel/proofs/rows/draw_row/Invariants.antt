@@ -1,4 +1,4 @@
-use Rattle.std.proofs.Common.{◌≡◌, ◌+◌, ◌-◌, ◌≤◌}
+use Rattle.std.proofs.Common.{◌≡◌, ◌-◌, ◌≤◌}
 use Rattle.geom_base.specs.Points.{is_in}
 use Rattle.surf_obj.specs.Lent.{values_of, size_of, format_of, OnlyPixels}
 use Rattle.surf_obj.specs.Surface.{redrawn}

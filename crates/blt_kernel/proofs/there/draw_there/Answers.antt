@@ -1,9 +1,5 @@
-use Rattle.std.proofs.Common.{◌∙◌, refl, sym, true≢false, true, false, ap, IsTrue, ◌≡◌, ◌&&◌, ◌<◌, arith, Bool}
+use Rattle.std.proofs.Common.{◌∙◌, refl, sym, true≢false}
 use Rattle.surf_obj.specs.Lent.{size_of, format_of}
-use Rattle.geom_base.specs.declared.size.Size.{Size}
-use Rattle.geom_base.specs.Points.{is_in}
-use Rattle.surf_obj.specs.Surface.{point_at}
-use Rattle.blt_kernel.specs.Boxes.{box_from, HasPoint}
 use Rattle.blt_kernel.proofs.ThereLemmas.{can_draw, there_redrawn, none_redrawn}
 use Rattle.blt_kernel.proofs.there.draw_there.Goals as goal
 

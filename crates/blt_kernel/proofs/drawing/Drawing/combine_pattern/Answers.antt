@@ -1,7 +1,4 @@
-use Rattle.std.proofs.Common.{sym, ap, get_or, ℕ, rules}
-use Rattle.surf_obj.specs.Lent.{size_of, values_of}
-use Rattle.surf_obj.specs.Surface.{point_at}
-use Rattle.blt_kernel.specs.Drawing.{source_or_none}
+use Rattle.std.proofs.Common.{get_or, rules}
 use Rattle.blt_kernel.proofs.DrawLemmas.{row_gives}
 use Rattle.blt_kernel.proofs.drawing.Drawing.combine_pattern.Goals as goal
 

@@ -1,4 +1,4 @@
-use Rattle.std.proofs.Common.{sym, ap, get_or, ℕ, rules}
+use Rattle.std.proofs.Common.{get_or, rules}
 use Rattle.blt_kernel.proofs.DrawLemmas.{row_gives, copy_gives}
 use Rattle.blt_kernel.proofs.drawing.Drawing.combine_source.Goals as goal
 

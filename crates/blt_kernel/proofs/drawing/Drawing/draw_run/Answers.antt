@@ -1,16 +1,9 @@
-use Rattle.std.proofs.Common.{◌∙◌, ap, ℕ, rules, length, ◌≡◌, arith}
+use Rattle.std.proofs.Common.{◌∙◌, rules, length, ◌≡◌}
 use Rattle.surf_obj.specs.Lent.{size_of, values_of, format_of}
 use Rattle.surf_obj.proofs.LentLemmas.{length-values_of}
 use Rattle.blt_kernel.specs.Drawing.{drawn}
 use Rattle.blt_kernel.proofs.JoinLemmas.{run_is}
-use Rattle.blt_kernel.proofs.DrawLemmas.{fill_gives}
 use Rattle.blt_kernel.proofs.drawing.Drawing.draw_run.Goals as goal
-
-pub returns-in-Some : goal.returns-in-Some
-returns-in-Some c = record {
-  values = c.fill_run.ensures.values ∙ fill_gives c.args.self.now c.args.dst.now c.args.x c.args.y c.args.len c.in-Some.value c.in-Some.ensures c.requires.able.ink;
-  only = c.fill_run.ensures.only;
-}
 
 pub returns : goal.returns
 returns c =
