@@ -1,0 +1,58 @@
+-- What kernels give, as calls say it.
+use Rattle.std.proofs.Common.{◌≡◌, ℕ, ◌*◌, ◌/◌, ◌<◌, List, refl, sym, ap, ◌∙◌, arith, Option, Some, None, unwrap_or}
+use Rattle.geom_base.specs.declared.point.Point.{Point}
+use Rattle.geom_base.specs.declared.rect.Rect.{Rect}
+use Rattle.geom_base.specs.declared.size.Size.{Size}
+use Rattle.geom_base.specs.Points.{is_in, LiesIn}
+use Rattle.std.proofs.lemmas.Int.{ints}
+use Rattle.blt_kernel.specs.Boxes.{box_from, LieIn}
+use Rattle.blt_kernel.specs.declared.edges.Edges.{Edges}
+use Rattle.pix_format.specs.declared.format.Format.{Format}
+use Rattle.pix_format.specs.declared.rgb.Rgb.{Rgb}
+use Rattle.pix_format.specs.Value.{bits_of}
+use Rattle.rop_mix.specs.Rop.{rop3_of}
+use Rattle.surf_obj.specs.Changes.{Change}
+use Rattle.surf_obj.specs.Lent.{size_of, values_of}
+use Rattle.surf_obj.specs.Surface.{redrawn, value_at, point_at}
+use Rattle.surf_obj.specs.declared.lent.LentSurf.{LentSurf}
+use Rattle.surf_obj.proofs.StepLemmas.{redrawn_rule}
+use Rattle.surf_obj.proofs.LentLemmas.{length-values_of}
+use Rattle.brush_obj.specs.Brush.{brush_value}
+use Rattle.brush_obj.specs.Calls.{Operands, new_of_paint}
+use Rattle.brush_obj.specs.declared.face.BrushFace.{BrushFace}
+use Rattle.brush_obj.specs.declared.paint_call.PaintCall.{PaintCall}
+use Rattle.blt_kernel.specs.Drawing.{drawn, ink_at, source_or_none}
+use Rattle.blt_kernel.specs.Given.{PaintsWith}
+use Rattle.blt_kernel.specs.declared.drawing.Drawing.{Drawing}
+use Rattle.blt_kernel.proofs.DrawLemmas.{drawn_value-unmasked}
+
+-- the code of both halves
+pub both_halves : (code : ℕ) → code < 256 → code * 257 / 256 ≡ code
+both_halves code h = omega arith
+
+-- a paint gives the mix
+pub paint_gives : (d : Drawing) (call : PaintCall) (o : Operands) (size : Size) (format : Format) (values : List ℕ) (table : List Rgb) (face : BrushFace) (code : ℕ) (p : Point) (was : ℕ) → d.mask ≡ None → d.rop.code / 256 ≡ code →
+    ink_at d.ink format p ≡ brush_value face format table call.origin p → PaintsWith format table face o →
+    ((s : ℕ) → new_of_paint call o p was ≡ Some (rop3_of code (brush_value o.brush o.format o.table call.origin p) s was (bits_of o.format))) →
+    drawn d size format values p was ≡ new_of_paint call o p was
+paint_gives d call o size format values table face code p was none halves ink with law =
+    let s = source_or_none d.source size values p in
+    let gives : drawn d size format values p was ≡ Some (rop3_of code (brush_value face format table call.origin p) s was (bits_of format))
+    = ap (λ (v : ℕ). Some v) (drawn_value-unmasked d size format values p was none ∙ rw (halves, ink) refl) in
+    let same : Some (rop3_of code (brush_value o.brush o.format o.table call.origin p) s was (bits_of o.format)) ≡ Some (rop3_of code (brush_value face format table call.origin p) s was (bits_of format))
+    = rw (with.face, with.kept, with.colours) refl in
+    gives ∙ sym same ∙ sym (law s)
+
+-- a box of a surface redrawn by a rule is a rectangle redrawn by another, where these are the same
+pub box_redrawn : (dst : LentSurf) (after : List ℕ) (box rect : Rect) (rule rule' : Change) → box ≡ rect → after ≡ redrawn (size_of dst) (values_of dst) (λ p. is_in p box) rule →
+    ((p : Point) (d : ℕ) → rule p d ≡ rule' p d) → after ≡ redrawn (size_of dst) (values_of dst) (λ p. is_in p rect) rule'
+box_redrawn dst after box rect rule rule' same drew rules =
+    rw same at drew
+    ∙ redrawn_rule (size_of dst) (values_of dst) (λ p. is_in p rect) rule rule' (length-values_of dst)
+    (λ x y hx hy inside. ap (λ (o : Option ℕ). unwrap_or o (value_at (size_of dst) (values_of dst) x y)) (rules (point_at x y) (value_at (size_of dst) (values_of dst) x y)))
+
+-- edges of a rectangle that lies in a surface
+pub edges_lie : (e : Edges) (rect : Rect) (size : Size) → box_from e ≡ rect → LiesIn rect size → LieIn size e
+edges_lie e rect size same lies =
+    let inside : LiesIn (box_from e) size = rw same lies in
+    record { across = omega (arith, ints, inside.across); right = omega (arith, ints, inside.right); down = omega (arith, ints, inside.down); bottom = omega (arith, ints, inside.bottom) }

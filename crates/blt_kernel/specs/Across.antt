@@ -1,0 +1,22 @@
+-- Points of a source or a mask that belong to points of a target.
+use Rattle.std.specs.Prelude.{ℕ, ℤ, pos, ◌+ℤ◌, ◌-ℤ◌, ◌≤ℤ◌, List}
+use Rattle.geom_base.specs.declared.point.Point.{Point}
+use Rattle.geom_base.specs.declared.size.Size.{Size}
+use Rattle.surf_obj.specs.Surface.{value_of_point}
+use Rattle.brush_obj.specs.Calls.{point_across}
+use Rattle.blt_kernel.specs.declared.across.Across.{Across}
+
+-- the coordinate that belongs to one of the target, where `at` belongs to the corner's
+abbrev pub place_across : ℤ → ℤ → ℤ → ℤ
+place_across corner at x = (x -ℤ corner) +ℤ at
+
+-- what belongs to the points of a box lies in a surface of a size
+pub record Reaches (across : Across) (size : Size) (left top right bottom : ℕ) : Type 0 where
+  pub from_left : pos 0 ≤ℤ place_across across.rect.left across.at.x (pos left)
+  pub to_right : place_across across.rect.left across.at.x (pos right) ≤ℤ pos size.w
+  pub from_top : pos 0 ≤ℤ place_across across.rect.top across.at.y (pos top)
+  pub to_bottom : place_across across.rect.top across.at.y (pos bottom) ≤ℤ pos size.h
+
+-- the value that belongs to a point
+abbrev pub value_across : Across → Size → List ℕ → Point → ℕ
+value_across across size values p = value_of_point size values (point_across across.rect across.at p)

@@ -1,0 +1,31 @@
+-- In which order a drawing may go, where it reads the surface that it draws on.
+use Rattle.std.specs.Prelude.{ℕ, Bool, true, false, ◌+◌, ◌-◌, ◌≡◌, ◌<ℤ◌, ◌≤ℤ◌, ◌⊎◌, Option, Some, None, if◌then◌else◌}
+use Rattle.std.specs.Borrow.{Bor}
+use Rattle.geom_base.specs.declared.rect.Rect.{Rect}
+use Rattle.geom_base.specs.Points.{box_of}
+use Rattle.surf_obj.specs.declared.view.LentView.{LentView}
+use Rattle.blt_kernel.specs.declared.across.Across.{Across}
+use Rattle.blt_kernel.specs.declared.source.Source.{Source}
+
+-- the source of a point is no point before it, in the order of rows from the top and of columns from the left, or in the order from the
+-- bottom and from the right
+abbrev pub IsAhead : Across → Bool → Type 0
+IsAhead across true = (across.rect.top <ℤ across.at.y) ⊎ ((across.rect.top ≡ across.at.y) × (across.rect.left ≤ℤ across.at.x))
+IsAhead across false = (across.at.y <ℤ across.rect.top) ⊎ ((across.at.y ≡ across.rect.top) × (across.at.x ≤ℤ across.rect.left))
+
+abbrev pub KeepsUnlent : Option (Bor LentView) → Across → Bool → Type 0
+KeepsUnlent (Some view) across forward = Unit {0}
+KeepsUnlent None across forward = IsAhead across forward
+
+-- an order reads each point of the target before it draws there; any order does where the target is no source
+abbrev pub KeepsSource : Option Source → Bool → Type 0
+KeepsSource (Some s) forward = KeepsUnlent s.lent s.across forward
+KeepsSource None forward = Unit {0}
+
+-- the first columns of a row in such an order
+abbrev pub columns_done : Bool → ℕ → ℕ → ℕ → ℕ → Rect
+columns_done forward left right y done = if forward then box_of left y (left + done) (y + 1) else box_of (right - done) y right (y + 1)
+
+-- the first rows of a box
+abbrev pub rows_done : Bool → ℕ → ℕ → ℕ → ℕ → ℕ → Rect
+rows_done forward left top right bottom done = if forward then box_of left top right (top + done) else box_of left (bottom - done) right bottom

@@ -1,0 +1,182 @@
+//! Drawings: what is drawn with, and how it is combined.
+
+ghost use Rattle.std.specs.Prelude.{◌≡◌, ◌≤◌, ◌+◌, IsTrue, IfSome, length};
+ghost use Rattle.surf_obj.specs.Lent.{size_of, format_of};
+ghost use Rattle.blt_kernel.specs.Fills.{FillsWith, takes_pattern_alone};
+ghost use Rattle.blt_kernel.specs.Order.{KeepsSource};
+ghost use Rattle.blt_kernel.specs.Drawing.{CanDraw, IsDrawn, GivesRun};
+
+use crate::ink::Ink;
+use crate::mask::Mask;
+use crate::source::{Source, read_source};
+use pix_format::Format;
+use rop_mix::{Rop4, apply_fill, apply_masked, apply_row, apply_solid, rop3};
+use surf_obj::LentSurf;
+
+/// A raster operation with all that it needs.
+#[derive(Clone, Copy)]
+pub struct Drawing<'a> {
+    pub rop: Rop4,
+    pub source: Option<Source<'a>>,
+    pub mask: Option<Mask<'a>>,
+    pub ink: Ink<'a>,
+}
+
+impl Drawing<'_> {
+    /// The order in which each point of the target is read before it is drawn: from the top and from the left, or else from the
+    /// bottom and from the right.
+    pub fn is_forward(&self) -> bool
+        ensures { KeepsSource self.now.source result }
+    {
+        match &self.source {
+            Some(source) => source.is_ahead(),
+            None => true,
+        }
+    }
+
+    /// Draws a run of at most 256 pixels.
+    pub fn draw_run(&self, dst: &mut LentSurf<'_>, x: u32, y: u32, len: usize)
+        requires short { len ≤ 256 }
+        requires able { CanDraw self.now (size_of dst.old) (format_of dst.old) x y (x + len) (y + 1) }
+        ensures { IsDrawn self.now x y (x + len) (y + 1) dst.old dst.new }
+    {
+        let mut values = [0; 256];
+        let values = &mut values[..len];
+        self.combine(dst, x, y, values);
+        dst.write_run(x, y, values);
+    }
+
+    /// The value that all pixels get, where it is the same whatever the source and the old values.
+    pub fn fill_value(&self, format: Format) -> Option<u32>
+        ensures { IfSome result (FillsWith self.now format) }
+    {
+        let code = self.rop.clear_code();
+        match (self.mask, self.ink) {
+            (None, Ink::Solid(pattern)) if takes_pattern_alone(code) => {
+                Some(rop3(code, pattern, 0, 0, format.bits()))
+            }
+            _ => None,
+        }
+    }
+
+    /// The new values of a run.
+    fn combine(&self, dst: &LentSurf<'_>, x: u32, y: u32, values: &mut [u32])
+        requires short { length values.old ≤ 256 }
+        requires able { CanDraw self.now (size_of dst.now) (format_of dst.now) x y (x + length values.old) (y + 1) }
+        ensures { GivesRun self.now dst.now x y values.new }
+    {
+        match self.mask {
+            Some(mask) => self.combine_masked(&mask, dst, x, y, values),
+            None => self.combine_unmasked(dst, x, y, values),
+        }
+    }
+
+    /// The new values of a run, each by one of two codes.
+    fn combine_masked(
+        &self,
+        mask: &Mask<'_>,
+        dst: &LentSurf<'_>,
+        x: u32,
+        y: u32,
+        values: &mut [u32],
+    )
+        requires mask { self.now.mask ≡ Some mask.now }
+        requires short { length values.old ≤ 256 }
+        requires able { CanDraw self.now (size_of dst.now) (format_of dst.now) x y (x + length values.old) (y + 1) }
+        ensures { GivesRun self.now dst.now x y values.new }
+    {
+        let len = values.len();
+        let format = dst.format();
+        let mut pattern = [0; 256];
+        let pattern = &mut pattern[..len];
+        self.ink.fill_run(format, x, y, pattern);
+        let mut source = [0; 256];
+        let source = &mut source[..len];
+        read_source(&self.source, dst, x, y, source);
+        let mut bits = [0; 256];
+        let bits = &mut bits[..len];
+        mask.read_run(x, y, bits);
+        dst.read_run(x, y, values);
+        apply_masked(self.rop, bits, pattern, source, values, format.bits());
+    }
+
+    /// The new values of a run by one code.
+    fn combine_unmasked(&self, dst: &LentSurf<'_>, x: u32, y: u32, values: &mut [u32])
+        requires mask { self.now.mask ≡ None }
+        requires short { length values.old ≤ 256 }
+        requires able { CanDraw self.now (size_of dst.now) (format_of dst.now) x y (x + length values.old) (y + 1) }
+        ensures { GivesRun self.now dst.now x y values.new }
+    {
+        match self.source {
+            Some(source) => self.combine_source(&source, dst, x, y, values),
+            None => self.combine_pattern(dst, x, y, values),
+        }
+    }
+
+    /// The new values of a run by one code that needs no source.
+    fn combine_pattern(&self, dst: &LentSurf<'_>, x: u32, y: u32, values: &mut [u32])
+        requires mask { self.now.mask ≡ None }
+        requires source { self.now.source ≡ None }
+        requires short { length values.old ≤ 256 }
+        requires able { CanDraw self.now (size_of dst.now) (format_of dst.now) x y (x + length values.old) (y + 1) }
+        ensures { GivesRun self.now dst.now x y values.new }
+    {
+        let code = self.rop.clear_code();
+        let format = dst.format();
+        dst.read_run(x, y, values);
+        if let Ink::Solid(value) = self.ink {
+            apply_fill(code, value, values, format.bits());
+            return;
+        }
+        let mut pattern = [0; 256];
+        let pattern = &mut pattern[..values.len()];
+        self.ink.fill_run(format, x, y, pattern);
+        let mut source = [0; 256];
+        let source = &mut source[..values.len()];
+        read_source(&self.source, dst, x, y, source);
+        apply_row(code, pattern, source, values, format.bits());
+    }
+
+    /// The new values of a run by one code that needs a source.
+    fn combine_source(
+        &self,
+        source: &Source<'_>,
+        dst: &LentSurf<'_>,
+        x: u32,
+        y: u32,
+        values: &mut [u32],
+    )
+        requires mask { self.now.mask ≡ None }
+        requires source { self.now.source ≡ Some source.now }
+        requires short { length values.old ≤ 256 }
+        requires able { CanDraw self.now (size_of dst.now) (format_of dst.now) x y (x + length values.old) (y + 1) }
+        ensures { GivesRun self.now dst.now x y values.new }
+    {
+        let code = self.rop.clear_code();
+        if code == 0xcc {
+            source.read_run(dst, x, y, values);
+            return;
+        }
+        let len = values.len();
+        let format = dst.format();
+        let mut own = [0; 256];
+        let own = &mut own[..len];
+        source.read_run(dst, x, y, own);
+        dst.read_run(x, y, values);
+        if let Ink::Solid(value) = self.ink {
+            apply_solid(code, value, own, values, format.bits());
+            return;
+        }
+        let mut pattern = [0; 256];
+        let pattern = &mut pattern[..len];
+        self.ink.fill_run(format, x, y, pattern);
+        apply_row(code, pattern, own, values, format.bits());
+    }
+}
+
+/// Whether a code's results depend on the pattern alone.
+fn takes_pattern_alone(code: u8) -> bool
+    ensures { IsTrue result → IsTrue (takes_pattern_alone code) }
+{
+    matches!(code, 0x00 | 0x0f | 0xf0 | 0xff)
+}

@@ -1,0 +1,62 @@
+//! Paints.
+
+ghost use Rattle.std.specs.Prelude.{◌≡◌, ℕ, List, None, length};
+ghost use Rattle.geom_base.specs.Points.{is_in, LiesIn};
+ghost use Rattle.geom_base.specs.declared.point.Point.{Point};
+ghost use Rattle.geom_base.specs.declared.size.Size.{Size};
+ghost use Rattle.pix_format.specs.Value.{colours_of};
+ghost use Rattle.surf_obj.specs.Lent.{values_of, size_of, format_of, OnlyPixels};
+ghost use Rattle.surf_obj.specs.Surface.{redrawn};
+ghost use Rattle.brush_obj.specs.Calls.{Operands, new_of_paint};
+ghost use Rattle.blt_kernel.specs.Drawing.{InkFits, drawn};
+ghost use Rattle.blt_kernel.specs.Given.{PaintsWith};
+
+use crate::drawing::Drawing;
+use crate::edges::Edges;
+use crate::ink::Ink;
+use crate::rows::draw_box;
+use brush_obj::{BrushObj, PaintCall};
+use geom_base::Rect;
+use pix_format::{ColourTable, Format};
+use rop_mix::Rop4;
+use surf_obj::LentSurf;
+
+/// Draws the part of a paint in a rectangle of the target. `table` is the target's.
+pub fn paint_rect(
+    dst: &mut LentSurf<'_>,
+    rect: Rect,
+    call: &PaintCall,
+    table: &ColourTable,
+    brush: &BrushObj,
+)
+    requires inside { LiesIn rect (size_of dst.old) }
+    requires table { length table.now ≡ colours_of (format_of dst.old) }
+    ensures values { (o : Operands) → PaintsWith (format_of dst.old) table.now brush.now.face o →
+        values_of dst.new ≡ redrawn (size_of dst.old) (values_of dst.old) (λ p. is_in p rect) (new_of_paint call.now o) }
+    ensures only { OnlyPixels dst.old dst.new }
+{
+    let drawing = drawing_of(call, dst.format(), table, brush);
+    draw_box(&drawing, dst, &Edges::of(rect), true);
+}
+
+/// What a paint draws with on a target of this format and table.
+fn drawing_of<'a>(
+    call: &PaintCall,
+    format: Format,
+    table: &'a ColourTable,
+    brush: &'a BrushObj,
+) -> Drawing<'a>
+    requires { length table.now ≡ colours_of format }
+    ensures source { result.source ≡ None }
+    ensures mask { result.mask ≡ None }
+    ensures ink { InkFits result.ink format }
+    ensures values { (o : Operands) (size : Size) (values : List ℕ) (p : Point) (d : ℕ) → PaintsWith format table.now brush.now.face o →
+        drawn result size format values p d ≡ new_of_paint call.now o p d }
+{
+    Drawing {
+        rop: Rop4::of(u16::from(call.rop3()) * 257),
+        source: None,
+        mask: None,
+        ink: Ink::of(brush.face(), format, table, call.origin),
+    }
+}
