@@ -3,12 +3,12 @@ use Rattle.std.proofs.lemmas.Int.{ints}
 use Rattle.geom_base.specs.declared.rect.Rect.{Rect}
 use Rattle.region.specs.declared.step.Step.{Step}
 use Rattle.region.specs.Steps.{final_value, IsOrdered, AllValid, AllFit, IsReduced, CanPush}
-use Rattle.region.specs.Region.{column, HasColumns, IsColumns}
-use Rattle.region.specs.Rects.{span_rects, row_rects, rects_of}
-use Rattle.region.specs.Canonical.{Columns, Bands, IsCanonical, lists_of, IsBands, IsListed}
+use Rattle.region.specs.Columns.{column, HasColumns, IsColumns, Columns}
+use Rattle.region.specs.Band.{span_rects, row_rects, rects_of, Bands, IsCanonical, lists_of, IsBands}
+use Rattle.region.specs.Region.{IsListed}
 use Rattle.region.specs.BandList.{run_count, rect_count, IsKept, IsCounted, AreCanonical}
 use Rattle.region.proofs.StepLemmas.{reduced_is_ordered, final_value-push}
-use Rattle.region.proofs.CanonicalLemmas.{rects_of_lists, held_values}
+use Rattle.region.proofs.RegionLemmas.{rects_of_lists, held_values}
 
 abbrev pub flag : Bool → ℕ
 flag b = if b then 1 else 0

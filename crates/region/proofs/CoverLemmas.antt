@@ -1,14 +1,13 @@
-use Rattle.std.proofs.Common.{◌≡◌, ◌∙◌, ℕ, ℤ, ◌+◌, ◌-◌, ◌≤◌, ◌<ℤ◌, ◌≤ℤ◌, ◌-ℤ◌, pos, negsuc, List, [], ◌∷◌, ◌++◌, Bool, true, false, refl, ap, sym, subst, arith, ◌⊎◌, inl, inr, int_lt, int_le, cond, if◌then◌else◌, ◌&&◌, ◌||◌, FitsSigned, w32, append_assoc}
-use Rattle.std.specs.Int.{int_max, int_min}
-use Rattle.std.proofs.lemmas.Int.{ints, clamps}
+use Rattle.std.proofs.Common.{◌≡◌, ◌∙◌, ℤ, ◌+◌, ◌≤◌, ◌<ℤ◌, ◌≤ℤ◌, List, [], ◌∷◌, ◌++◌, Bool, true, false, refl, ap, sym, subst, arith, ◌⊎◌, inl, inr, int_lt, if◌then◌else◌, ◌&&◌, ◌||◌}
+use Rattle.std.proofs.lemmas.Int.{ints}
 use Rattle.std.proofs.lemmas.Bool.{false≢true}
-use Rattle.geom_base.specs.declared.rect.Rect.{Rect}
 use Rattle.region.specs.declared.step.Step.{Step}
-use Rattle.region.specs.declared.strip.Row.{Row}
+use Rattle.region.specs.declared.row.Row.{Row}
 use Rattle.region.specs.declared.strip.Strip.{Strip}
 use Rattle.region.specs.declared.cover.Cover.{Cover}
 use Rattle.region.specs.declared.cover.Cover.TheVariants.{Cell, Pair'}
-use Rattle.region.specs.Strip.{within, IsSound}
+use Rattle.region.specs.Row.{IsSound}
+use Rattle.region.specs.Strip.{within}
 use Rattle.region.specs.Cover.{strip_of, covers, filled_in, first_in, last_in, change, steps_in, IsRowOf, IsShaped, SameStrip, SameShape}
 use Rattle.region.specs.BandList.{run_count}
 use Rattle.region.proofs.StepLemmas.{lt_is, ge_is, at_or_before}

@@ -1,4 +1,4 @@
-use Rattle.std.proofs.Common.{◌≡◌, ◌∙◌, ℕ, ℤ, ◌+◌, ◌≤◌, ◌<ℤ◌, ◌≤ℤ◌, pos, negsuc, List, [], ◌∷◌, ◌++◌, Bool, true, false, refl, ap, sym, subst, arith, ◌⊎◌, inl, inr, int_lt, int_le, cond, if◌then◌else◌, ◌&&◌, ◌||◌, FitsSigned, w32, append_assoc}
+use Rattle.std.proofs.Common.{◌≡◌, ◌∙◌, ℤ, ◌+◌, ◌≤◌, ◌<ℤ◌, ◌≤ℤ◌, pos, negsuc, List, [], ◌∷◌, ◌++◌, Bool, true, false, refl, ap, sym, subst, arith, inl, inr, int_lt, if◌then◌else◌, ◌||◌, FitsSigned, w32, append_assoc}
 use Rattle.std.proofs.lemmas.Int.{ints}
 use Rattle.std.proofs.lemmas.List.{append-nil}
 use Rattle.std.proofs.lemmas.Bool.{false≢true}
@@ -6,12 +6,12 @@ use Rattle.region.specs.declared.step.Step.{Step}
 use Rattle.region.specs.declared.strip.Strip.{Strip}
 use Rattle.region.specs.declared.cover.Cover.{Cover}
 use Rattle.region.specs.declared.cover.Cover.TheVariants.{Cell, Pair'}
+use Rattle.region.specs.Columns.{column, IsColumns}
 use Rattle.region.specs.Strip.{within}
 use Rattle.region.specs.Steps.{value_at, final_value, BeginsAfter, BeginsFrom, AllFit, IsReduced}
-use Rattle.region.specs.Region.{column, HasColumns, IsColumns}
 use Rattle.region.specs.Cover.{strip_of, covers, filled_in, last_in, change, steps_in, columns_in, IsShaped, IsCover}
 use Rattle.region.specs.BandList.{run_count}
-use Rattle.region.proofs.StepLemmas.{lt_is, ge_is, at_or_before, value_at-before, BeginsAfter-earlier}
+use Rattle.region.proofs.StepLemmas.{ge_is, at_or_before, value_at-before, BeginsAfter-earlier}
 use Rattle.region.proofs.CoverLemmas.{tested, within_is, within_if, has_width, has_size, not_covered, run_count-append}
 use Rattle.region.proofs.CoverTurnLemmas.{told, parts_last}
 

@@ -1,19 +1,19 @@
-use Rattle.std.proofs.Common.{◌≡◌, ◌∙◌, ℕ, ℤ, ◌+◌, ◌-◌, ◌≤◌, ◌<ℤ◌, ◌≤ℤ◌, ◌-ℤ◌, pos, negsuc, List, [], ◌∷◌, ◌++◌, Bool, true, false, refl, ap, sym, subst, arith, ◌⊎◌, inl, inr, int_lt, int_le, cond, if◌then◌else◌, ◌&&◌, ◌||◌}
+use Rattle.std.proofs.Common.{◌≡◌, ◌∙◌, ℤ, ◌+◌, ◌<ℤ◌, ◌≤ℤ◌, pos, ◌++◌, Bool, true, false, refl, ap, sym, subst, arith, ◌⊎◌, inl, inr, int_lt, int_le, if◌then◌else◌, ◌&&◌, ◌||◌}
 use Rattle.std.specs.Int.{int_max, int_min}
 use Rattle.std.proofs.lemmas.Int.{ints, clamps}
 use Rattle.std.proofs.lemmas.Bool.{false≢true}
 use Rattle.geom_base.specs.declared.rect.Rect.{Rect}
-use Rattle.region.specs.declared.step.Step.{Step}
-use Rattle.region.specs.declared.strip.Row.{Row}
+use Rattle.region.specs.declared.row.Row.{Row}
 use Rattle.region.specs.declared.strip.Strip.{Strip}
 use Rattle.region.specs.declared.cover.Cover.{Cover}
 use Rattle.region.specs.declared.cover.Cover.TheVariants.{Cell, Pair'}
-use Rattle.region.specs.Strip.{within, full_row, empty_row, beside, seen_at, covered_until, IsSound}
-use Rattle.region.specs.Cover.{strip_of, covers, filled_in, first_in, last_in, change, steps_in, IsRowOf, IsTold, LastsWith, IsSeen, IsShaped, IsCover, Splits, SameStrip, SameShape, reaches, IsAdded, IsMoved}
+use Rattle.region.specs.Row.{full_row, empty_row, beside, IsSound}
+use Rattle.region.specs.Strip.{within, seen_at, covered_until}
+use Rattle.region.specs.Cover.{strip_of, covers, filled_in, first_in, last_in, steps_in, IsRowOf, IsTold, IsSeen, IsShaped, IsCover, Splits, SameStrip, SameShape, reaches, IsAdded, IsMoved}
 use Rattle.region.specs.BandList.{run_count}
 use Rattle.region.proofs.StepLemmas.{lt_is, ge_is}
 use Rattle.region.proofs.CountLemmas.{flag}
-use Rattle.region.proofs.CoverLemmas.{tested, is_lt, is_ge, within_is, within_left, within_right, has_width, covers_within, not_covered, same_strip, run_count-append, runs_before, row_is_sound}
+use Rattle.region.proofs.CoverLemmas.{tested, is_lt, is_ge, within_left, within_right, has_width, not_covered, same_strip, run_count-append, runs_before, row_is_sound}
 
 pub same_shape : (t : Cover) → SameShape t t
 same_shape (Cell s) = (refl, refl, refl)

@@ -1,11 +1,11 @@
-use Rattle.std.proofs.Common.{◌≡◌, ◌∙◌, ℕ, ℤ, ◌+◌, ◌-◌, ◌≤◌, ◌<ℤ◌, ◌≤ℤ◌, pos, negsuc, List, [], ◌∷◌, ◌++◌, length, Bool, true, false, refl, ap, sym, subst, arith, ◌⊎◌, inl, inr, int_lt, append_assoc, length-append, FitsSigned, w32}
+use Rattle.std.proofs.Common.{◌≡◌, ◌∙◌, ℕ, ℤ, ◌+◌, ◌-◌, ◌≤◌, ◌<ℤ◌, ◌≤ℤ◌, pos, negsuc, List, [], ◌∷◌, ◌++◌, false, refl, ap, sym, subst, arith, ◌⊎◌, inl, inr, int_lt, append_assoc, length-append, FitsSigned, w32}
 use Rattle.std.proofs.lemmas.Int.{ints}
 use Rattle.region.specs.declared.strip.Strip.{Strip}
 use Rattle.region.specs.declared.cover.Cover.{Cover}
 use Rattle.region.specs.declared.cover.Cover.TheVariants.{Cell, Pair'}
-use Rattle.region.specs.Strip.{empty_row}
-use Rattle.region.specs.Cover.{strip_of, covers, IsShaped, IsRowOf, IsCover, Splits, SameShape}
-use Rattle.region.specs.Edges.{IsRisingFrom, right_edges, IsBare, IsBuilt}
+use Rattle.region.specs.Row.{empty_row}
+use Rattle.region.specs.Cover.{strip_of, IsShaped, IsRowOf, Splits, SameShape}
+use Rattle.region.specs.Edges.{IsRisingFrom, right_edges, IsBuilt}
 use Rattle.region.proofs.StepLemmas.{ge_is}
 use Rattle.region.proofs.CoverLemmas.{has_width}
 use Rattle.region.proofs.CoverTurnLemmas.{told, empty_told, beside_told}

@@ -6,12 +6,11 @@ use Rattle.std.proofs.lemmas.List.Elements.{All-nil, All-cons, All-append, All-w
 use Rattle.geom_base.specs.declared.rect.Rect.{Rect}
 use Rattle.region.specs.declared.step.Step.{Step}
 use Rattle.region.specs.Steps.{BeginsAfter, IsOrdered, AllValid, Same, IsReduced}
-use Rattle.region.specs.Region.{column, HasColumns}
-use Rattle.region.specs.Rects.{span_rects, row_rects, rects_of}
-use Rattle.region.specs.Canonical.{Bands, IsCanonical}
+use Rattle.region.specs.Columns.{column, HasColumns}
+use Rattle.region.specs.Band.{span_rects, row_rects, rects_of, Bands, IsCanonical}
 use Rattle.region.specs.Order.{ComesFirst, HasPoints, IsInOrder, RegionIsInOrder}
 use Rattle.region.proofs.StepLemmas.{reduced_is_ordered}
-use Rattle.region.proofs.CanonicalLemmas.{canonical_is_ordered}
+use Rattle.region.proofs.RegionLemmas.{canonical_is_ordered}
 
 -- in a band, from a column on
 abbrev InRow : ℤ → ℤ → ℤ → Rect → Type 0

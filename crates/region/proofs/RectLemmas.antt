@@ -1,4 +1,4 @@
-use Rattle.std.proofs.Common.{◌≡◌, ◌∙◌, ℤ, ◌<ℤ◌, List, [], ◌∷◌, ◌++◌, Bool, true, false, refl, ap, sym, arith, int_lt, int_le, cond, ◌&&◌, ◌||◌, if◌then◌else◌}
+use Rattle.std.proofs.Common.{◌≡◌, ◌∙◌, ℤ, ◌<ℤ◌, List, [], ◌∷◌, ◌++◌, length, ◌<◌, Bool, true, false, refl, ap, sym, arith, int_lt, int_le, cond, ◌&&◌, ◌||◌, if◌then◌else◌}
 use Rattle.std.specs.List.{All, AllPairs}
 use Rattle.std.proofs.lemmas.Bool.{false≢true}
 use Rattle.std.proofs.lemmas.List.Kept.{AllPairs-cons}
@@ -10,8 +10,8 @@ use Rattle.geom_base.specs.declared.rect.Rect.{Rect}
 use Rattle.geom_base.specs.Points.{is_in, is_in_some, AreApart}
 use Rattle.region.specs.declared.step.Step.{Step}
 use Rattle.region.specs.Steps.{value_at, final_value, IsOrdered, AllValid}
-use Rattle.region.specs.Region.{column, HasColumns}
-use Rattle.region.specs.Rects.{row_rects, rects_of}
+use Rattle.region.specs.Columns.{column, HasColumns}
+use Rattle.region.specs.Band.{row_rects, rects_of}
 use Rattle.region.proofs.StepLemmas.{reduced_is_ordered}
 
 -- a row lies in a band
@@ -154,3 +154,14 @@ none_shared r (x ∷ xs) h = All-cons (AreApart r) x xs (λ p. shared_first (is_
 pub all_pairs_apart : (xs : List Rect) → AllApart xs → AllPairs AreApart xs
 all_pairs_apart [] h = λ i j d a b. absurd (omega arith)
 all_pairs_apart (x ∷ xs) h = AllPairs-cons AreApart x xs (none_shared x xs h.0) (all_pairs_apart xs h.1)
+
+-- fewer than two steps end a band, and fewer than two bands the set
+pub row_end : (top bottom : ℤ) (rest : List (Step Bool)) → length rest < 2 → row_rects top bottom rest ≡ []
+row_end top bottom [] n = refl
+row_end top bottom (x ∷ []) n = refl
+row_end top bottom (x ∷ y ∷ rest) n = absurd (omega arith)
+
+pub bands_end : {V : Type 0} (columns : V → List (Step Bool)) (rest : List (Step V)) → length rest < 2 → rects_of columns rest ≡ []
+bands_end columns [] n = refl
+bands_end columns (x ∷ []) n = refl
+bands_end columns (x ∷ y ∷ rest) n = absurd (omega arith)

@@ -1,10 +1,8 @@
-use Rattle.std.proofs.Common.{◌≡◌, ◌∙◌, ℕ, ℤ, zero, suc, ◌+◌, ◌<◌, ◌≤◌, ◌<ℤ◌, ◌≤ℤ◌, ◌+ℤ◌, pos, negsuc, List, [], ◌∷◌, ◌++◌, length, get_or, drop, take, Bool, true, false, refl, ap, sym, subst, arith, ◌⊎◌, inl, inr, int_lt, int_le, cond, if◌then◌else◌, ◌&&◌, ◌||◌, FitsSigned, w32}
-use Rattle.std.specs.Int.{int_max}
+use Rattle.std.proofs.Common.{◌≡◌, ◌∙◌, ℕ, ℤ, zero, suc, ◌+◌, ◌<◌, ◌≤◌, ◌<ℤ◌, ◌≤ℤ◌, ◌+ℤ◌, pos, List, [], ◌∷◌, ◌++◌, length, get_or, drop, take, Bool, true, false, refl, ap, sym, subst, arith, ◌⊎◌, inl, inr, ◌&&◌, ◌||◌}
 use Rattle.std.specs.List.{All, Contains, filter}
 use Rattle.std.specs.List.Sorted.{IsStrictlySortedBy, IsPermutation, IsSortedByKey}
 use Rattle.std.specs.Ordering.{int_cmp, is_lt}
-use Rattle.std.proofs.lemmas.Int.{ints, clamps}
-use Rattle.std.proofs.lemmas.Bool.{false≢true}
+use Rattle.std.proofs.lemmas.Int.{ints}
 use Rattle.std.proofs.lemmas.Bool.Decides.{nat_tests}
 use Rattle.std.proofs.lemmas.List.Elements.{All-nil, All-cons, All-head, All-tail, All-contains, All-more, All-weaker, Contains-append_left, Contains-push}
 use Rattle.std.proofs.lemmas.List.{take_all}
@@ -17,9 +15,9 @@ use Rattle.region.specs.declared.strip.Strip.{Strip}
 use Rattle.region.specs.declared.cover.Cover.{Cover}
 use Rattle.region.specs.declared.cover.Cover.TheVariants.{Cell, Pair'}
 use Rattle.region.specs.Strip.{within}
-use Rattle.region.specs.Cover.{strip_of, covers, IsCover, IsShaped, Splits, SameStrip, SameShape, reaches, IsAdded}
-use Rattle.region.specs.Edges.{IsRisingFrom, IsRising, right_edges, IsOver}
-use Rattle.region.specs.Scan.{has_points, AllRects, IsSolid, IsArranged, BeginBelow, AreDownward, HasBothEdges, HasEdgesIn, AreReady, IsBegun, AreBeginning}
+use Rattle.region.specs.Cover.{strip_of, covers, IsCover, SameStrip, SameShape, reaches, IsAdded}
+use Rattle.region.specs.Edges.{IsRisingFrom, IsRising, IsOver}
+use Rattle.region.specs.Scan.{has_points, AllRects, IsSolid, IsArranged, BeginBelow, AreDownward, HasBothEdges, HasEdgesIn, AreReady, AreBeginning}
 use Rattle.region.proofs.CoverLemmas.{tested, or_is, or_left, or_right, same_strip}
 use Rattle.region.proofs.CoverTurnLemmas.{same_shape}
 use Rattle.region.proofs.EdgeLemmas.{IsEdgeOf, AllEdges, edges_split, first_is_edge, splits_same}

@@ -1,4 +1,4 @@
-use Rattle.std.proofs.Common.{◌≡◌, ◌∙◌, ℕ, ℤ, zero, suc, ◌+◌, ◌-◌, ◌^◌, ◌<◌, ◌≤◌, ◌<ℤ◌, ◌≤ℤ◌, ◌+ℤ◌, pos, negsuc, List, [], ◌∷◌, ◌++◌, length, get_or, drop, Bool, true, false, refl, ap, sym, subst, arith, ◌⊎◌, inl, inr, int_lt, ◌&&◌, ◌||◌, if◌then◌else◌, FitsSigned, w32}
+use Rattle.std.proofs.Common.{◌≡◌, ◌∙◌, ℕ, ℤ, ◌+◌, ◌-◌, ◌^◌, ◌<◌, ◌≤◌, ◌<ℤ◌, ◌≤ℤ◌, ◌+ℤ◌, pos, negsuc, List, [], ◌∷◌, ◌++◌, length, get_or, drop, Bool, true, false, refl, ap, sym, subst, arith, inl, inr, ◌||◌, FitsSigned, w32}
 use Rattle.std.specs.Int.{int_max}
 use Rattle.std.specs.List.{All}
 use Rattle.std.proofs.lemmas.Int.{ints, clamps}
@@ -10,25 +10,25 @@ use Rattle.geom_base.specs.Points.{is_in_some, no_rect}
 use Rattle.region.specs.declared.step.Step.{Step}
 use Rattle.region.specs.declared.cover.Cover.{Cover}
 use Rattle.region.specs.declared.cover.Cover.TheVariants.{Cell, Pair'}
-use Rattle.region.specs.Steps.{value_at, final_value, EndsBefore, AllValid, AllFit, IsReduced}
-use Rattle.region.specs.Region.{HasColumns, IsColumns}
+use Rattle.region.specs.Steps.{final_value, EndsBefore, AllValid, AllFit, IsReduced}
+use Rattle.region.specs.Columns.{HasColumns, IsColumns, Columns, has_column, columns_of}
+use Rattle.region.specs.Band.{Bands, has_point, lists_of}
 use Rattle.region.specs.Sweep.{before_or}
-use Rattle.region.specs.Canonical.{Columns, Bands, has_column, has_point, IsCanonical, lists_of}
-use Rattle.region.specs.BandList.{run_count, rect_count, IsCounted, AreCanonical}
+use Rattle.region.specs.BandList.{IsCounted, AreCanonical}
 use Rattle.region.specs.Cover.{strip_of, covers, filled_in, columns_in, IsCover, IsShaped, SameStrip, SameShape, IsMoved}
-use Rattle.region.specs.Edges.{IsOver, IsBare}
-use Rattle.region.specs.Scan.{IsSolid, AllRects, BeginBelow, BeginIn, AreDownward, IsArranged, HasBothEdges, AreReady, IsBegun, AreBeginning, HaveBegun, IsNextRow, ahead, EndsBeforeRects, IsScanned, IsScannedInto}
+use Rattle.region.specs.Edges.{IsOver}
+use Rattle.region.specs.Scan.{IsSolid, AllRects, BeginBelow, BeginIn, AreDownward, IsArranged, HasBothEdges, HaveBegun, IsNextRow, ahead, EndsBeforeRects, IsScanned, IsScannedInto}
 use Rattle.region.specs.declared.band_list.BandList.{BandList}
 use Rattle.region.specs.declared.strip.Strip.{Strip}
-use Rattle.region.proofs.StepLemmas.{lt_is, ge_is, at_or_before, final_value-push, EndsBefore-push, EndsBefore-later, AllValid-push, AllFit-push, IsReduced-push, IsOrdered-push, reduced_is_ordered, final_is_valid}
+use Rattle.region.proofs.StepLemmas.{at_or_before, final_value-push, EndsBefore-push, EndsBefore-later, AllValid-push, AllFit-push, IsReduced-push, IsOrdered-push, reduced_is_ordered, final_is_valid}
 use Rattle.region.proofs.SweepLemmas.{before_or-same, before_or-push, before_or-end, by_place}
 use Rattle.region.proofs.UniqueLemmas.{same_columns}
-use Rattle.region.proofs.CanonicalLemmas.{no_columns, held_no_columns}
+use Rattle.region.proofs.RegionLemmas.{no_columns, held_no_columns}
 use Rattle.region.proofs.CountLemmas.{count_fits, rect_count-push}
-use Rattle.region.proofs.CoverLemmas.{tested, or_left, or_right, same_strip, covers_above, grown, IsGrown}
+use Rattle.region.proofs.CoverLemmas.{tested, same_strip, covers_above, grown, IsGrown}
 use Rattle.region.proofs.CoverTurnLemmas.{told, seen_later, same_shape}
 use Rattle.region.proofs.CoverStepLemmas.{columns_are, columns_hold, fits_between, told_runs}
-use Rattle.region.proofs.ScanLemmas.{two_edges, first_of, none_above, none_past, all_rects, edges_same, has_edges, shape_on}
+use Rattle.region.proofs.ScanLemmas.{two_edges, first_of, none_above, none_past, all_rects, edges_same, has_edges}
 
 bool_same : (a b : Bool) → (a ≡ true → b ≡ true) → (b ≡ true → a ≡ true) → a ≡ b
 bool_same true b h k = sym (h refl)
@@ -214,9 +214,9 @@ room_after columns rects z p t more new rest others bands kept count s t1 k =
 none_below : (t : Cover) → IsShaped t → (z y x : ℤ) → z ≤ℤ y → covers t z x ≡ false → covers t y x ≡ false
 none_below t h z y x k e = elim (tested (covers t y x)) [ inl c ↦ absurd (false≢true (sym e ∙ covers_above t h z y x k c)) | inr c ↦ c ]
 
-columns_of : (bands : Bands) → AllValid IsColumns bands → AllValid HasColumns bands
-columns_of [] h = tt
-columns_of (b ∷ bands) h = (h.0.columns, columns_of bands h.1)
+all_columns : (bands : Bands) → AllValid IsColumns bands → AllValid HasColumns bands
+all_columns [] h = tt
+all_columns (b ∷ bands) h = (h.0.columns, all_columns bands h.1)
 
 no_ends : (rects : List Rect) → EndsBeforeRects [] rects
 no_ends [] = tt
@@ -231,7 +231,7 @@ scanned_all rects z t rest bands s e k =
       record {
         canonical = record {
           reduced = s.reduced;
-          values = columns_of bands s.values;
+          values = all_columns bands s.values;
           ends = same_columns (final_value [] bands) [] (final_is_valid IsColumns [] bands held_no_columns s.values).columns no_columns (λ x. s.now x ∙ bare x);
         };
         values = s.values;
@@ -340,7 +340,7 @@ into_same rects z p t more new rest others list a b c i t1 ea eb ec f g =
 
 pub into_new : (rects : List Rect) (z p : ℤ) (t more new : Cover) (rest others : List Rect) (list next : BandList) (a b c : Strip) → IsScannedInto rects z t rest list → IsTurned z p t more new rest others → a ≡ strip_of t → b ≡ strip_of more → c ≡ strip_of new →
     ((a.row.filled ≡ b.row.filled) × (b.row.filled ≡ c.row.filled) → ⊥) →
-    ((lists : Bands) → IsCounted (λ v. v.items) lists list.bands.items list.count → IsCounted (λ v. v.items) (lists ++ record { from = p; value = columns_in new p } ∷ []) next.bands.items next.count) → IsScannedInto rects p new others next
+    ((lists : Bands) → IsCounted columns_of lists list.bands.items list.count → IsCounted columns_of (lists ++ record { from = p; value = columns_in new p } ∷ []) next.bands.items next.count) → IsScannedInto rects p new others next
 into_new rects z p t more new rest others list next a b c i t1 ea eb ec differ count =
     let s = i.scanned in
     let begun = t1.begun.adding.begun in
@@ -354,7 +354,7 @@ into_new rects z p t more new rest others list next a b c i t1 ea eb ec differ c
     }
 
 pub into_room : (rects : List Rect) (z p : ℤ) (t more new : Cover) (rest others : List Rect) (list : BandList) → IsScannedInto rects z t rest list → IsTurned z p t more new rest others → list.count + (strip_of new).row.runs < 2 ^ 64
-into_room rects z p t more new rest others list i t1 = room_after (λ v. v.items) rects z p t more new rest others i.bands list.bands.items list.count i.scanned t1 i.counted
+into_room rects z p t more new rest others list i t1 = room_after columns_of rects z p t more new rest others i.bands list.bands.items list.count i.scanned t1 i.counted
 
 pub into_falls : (rects : List Rect) (z p : ℤ) (t more new : Cover) (rest others : List Rect) (list : BandList) → IsScannedInto rects z t rest list → IsTurned z p t more new rest others → length others + rows_below p < length rest + rows_below z
 into_falls rects z p t more new rest others list i t1 = turn_falls rects z p t more new rest others i.bands i.scanned t1
@@ -371,11 +371,11 @@ into_none rects sorted edges t list z n ez a o both items count =
     record {
       bands = [];
       scanned = scanned_for sorted rects z t sorted [] a.points (subst (λ u. IsScanned sorted u t sorted []) (sym ez) (scanned_none sorted edges (get_or sorted 0 no_rect) (drop 1 sorted) t e a.solid a.downward o both));
-      counted = record { number = count; all = λ few. ap (lists_of (λ v. v.items)) items };
+      counted = record { number = count; all = λ few. ap (lists_of columns_of) items };
     }
 
 pub into_all : (rects : List Rect) (z : ℤ) (t : Cover) (rest : List Rect) (list : BandList) (s : Strip) → IsScannedInto rects z t rest list → s ≡ strip_of t → rest ≡ [] → s.steady ≡ pos 2147483647 →
-    (bands : Bands) × AreCanonical bands × ((p : Point) → has_point bands p ≡ is_in_some p rects) × IsCounted (λ v. v.items) bands list.bands.items list.count
+    (bands : Bands) × AreCanonical bands × ((p : Point) → has_point bands p ≡ is_in_some p rects) × IsCounted columns_of bands list.bands.items list.count
 into_all rects z t rest list s i e none last =
     let all = scanned_all rects z t rest i.bands i.scanned none (ap (λ u. u.steady) (sym e) ∙ last) in (i.bands, all.0, all.1, i.counted)
 
@@ -389,10 +389,10 @@ none_in [] n p = refl
 none_in (r ∷ rects) n p = absurd (omega (arith, n))
 
 pub nothing_scanned : (rects sorted : List Rect) (list : BandList) → length sorted < 1 → IsArranged rects sorted → list.bands.items ≡ [] → list.count ≡ 0 →
-    (bands : Bands) × AreCanonical bands × ((p : Point) → has_point bands p ≡ is_in_some p rects) × IsCounted (λ v. v.items) bands list.bands.items list.count
+    (bands : Bands) × AreCanonical bands × ((p : Point) → has_point bands p ≡ is_in_some p rects) × IsCounted columns_of bands list.bands.items list.count
 nothing_scanned rects sorted list n a items count = (
   [],
   record { canonical = record { reduced = tt; values = tt; ends = refl }; values = tt },
   (λ p. sym (none_in sorted n p) ∙ a.points p),
-  record { number = count; all = λ few. ap (lists_of (λ v. v.items)) items },
+  record { number = count; all = λ few. ap (lists_of columns_of) items },
 )

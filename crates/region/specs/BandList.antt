@@ -2,8 +2,8 @@
 use Rattle.std.specs.Prelude.{◌≡◌, ◌+◌, ◌≤◌, ℕ, List, [], ◌∷◌, Bool, if◌then◌else◌}
 use Rattle.region.specs.declared.step.Step.{Step}
 use Rattle.region.specs.Steps.{final_value, AllValid}
-use Rattle.region.specs.Region.{IsColumns}
-use Rattle.region.specs.Canonical.{Columns, Bands, IsCanonical, lists_of}
+use Rattle.region.specs.Columns.{IsColumns, Columns}
+use Rattle.region.specs.Band.{Bands, IsCanonical, lists_of}
 
 -- the number of steps that begin columns of the set: of the runs of columns
 abbrev pub run_count : List (Step Bool) → ℕ

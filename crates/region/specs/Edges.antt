@@ -1,10 +1,10 @@
 -- Edges from left to right, and the cells between them.
-use Rattle.std.specs.Prelude.{◌≡◌, ℕ, ℤ, ◌<ℤ◌, ◌≤ℤ◌, pos, negsuc, List, [], ◌∷◌, ◌++◌, length, Bool, false, FitsSigned}
+use Rattle.std.specs.Prelude.{◌≡◌, ℕ, ℤ, ◌<ℤ◌, ◌≤ℤ◌, pos, negsuc, List, [], ◌∷◌, ◌++◌, length, false, FitsSigned}
 use Rattle.std.specs.Int.{w32}
 use Rattle.region.specs.declared.cover.Cover.{Cover}
 use Rattle.region.specs.declared.cover.Cover.TheVariants.{Cell, Pair'}
-use Rattle.region.specs.Strip.{empty_row}
-use Rattle.region.specs.Cover.{strip_of, covers, IsShaped, IsCover, Splits}
+use Rattle.region.specs.Row.{empty_row}
+use Rattle.region.specs.Cover.{strip_of, covers, IsCover}
 
 -- each edge is to the right of the one before, the first of them to the right of a column
 abbrev pub IsRisingFrom : ℤ → List ℤ → Type 0

@@ -11,9 +11,6 @@ pub record CanMove (by : Point) (r : Rect) : Type 0 where
   pub right : FitsSigned w32 (r.right +ℤ by.x)
   pub bottom : FitsSigned w32 (r.bottom +ℤ by.y)
 
-abbrev pub moved_rect : Point → Rect → Rect
-moved_rect by r = record { left = r.left +ℤ by.x; top = r.top +ℤ by.y; right = r.right +ℤ by.x; bottom = r.bottom +ℤ by.y }
-
 -- where a point was before
 abbrev pub moved_back : Point → Point → Point
 moved_back by p = record { x = p.x -ℤ by.x; y = p.y -ℤ by.y }

@@ -2,7 +2,7 @@
 use Rattle.std.specs.Prelude.{◌≡◌, ◌<ℤ◌, ◌≤ℤ◌, ◌⊎◌, List}
 use Rattle.std.specs.List.{All, AllPairs}
 use Rattle.geom_base.specs.declared.rect.Rect.{Rect}
-use Rattle.region.specs.Canonical.{IsRegion}
+use Rattle.region.specs.Region.{IsRegion}
 
 -- one is to the left in the same band and does not touch the other, or is in a higher band
 abbrev pub ComesFirst : Rect → Rect → Type 0

@@ -4,7 +4,7 @@ use Rattle.geom_base.specs.declared.point.Point.{Point}
 use Rattle.geom_base.specs.declared.rect.Rect.{Rect}
 use Rattle.region.specs.declared.refusal.RegionRefusal.{RegionRefusal}
 use Rattle.region.specs.declared.refusal.RegionRefusal.TheVariants.{TooMany, NoMemory}
-use Rattle.region.specs.Canonical.{IsRegionOf}
+use Rattle.region.specs.Region.{IsRegionOf}
 
 -- the list of the set has too many rectangles, and this is their number; or there was no memory
 abbrev pub Refuses : (Point → Bool) → RegionRefusal → Type 0

@@ -1,20 +1,18 @@
 -- Rectangles from top to bottom, and how far a scan over their rows has come.
-use Rattle.std.specs.Prelude.{◌≡◌, ◌+◌, ◌<◌, ◌≤◌, ℕ, ℤ, ◌<ℤ◌, ◌≤ℤ◌, ◌+ℤ◌, ◌⊎◌, pos, negsuc, length, List, [], ◌∷◌, ◌++◌, Bool, true, false, ◌||◌, ◌&&◌, int_lt}
+use Rattle.std.specs.Prelude.{◌≡◌, ◌<◌, ℤ, ◌≤ℤ◌, ◌+ℤ◌, ◌⊎◌, pos, negsuc, length, List, [], ◌∷◌, Bool, true, false, ◌||◌, ◌&&◌, int_lt}
 use Rattle.std.specs.Int.{int_max}
 use Rattle.std.specs.List.{All, Contains}
 use Rattle.geom_base.specs.declared.point.Point.{Point}
 use Rattle.geom_base.specs.declared.rect.Rect.{Rect}
 use Rattle.geom_base.specs.Points.{is_in_some}
-use Rattle.region.specs.declared.step.Step.{Step}
 use Rattle.region.specs.declared.cover.Cover.{Cover}
 use Rattle.region.specs.Steps.{final_value, EndsBefore, AllFit, AllValid, IsReduced}
-use Rattle.region.specs.Region.{IsColumns}
+use Rattle.region.specs.Columns.{IsColumns, has_column, columns_of}
+use Rattle.region.specs.Band.{Bands}
 use Rattle.region.specs.Sweep.{before_or}
-use Rattle.region.specs.Canonical.{Bands, has_column}
 use Rattle.region.specs.declared.band_list.BandList.{BandList}
 use Rattle.region.specs.BandList.{IsCounted}
 use Rattle.region.specs.Cover.{strip_of, covers, IsCover, Splits, SameShape}
-use Rattle.region.specs.Edges.{right_edges}
 use Rattle.region.specs.Order.{HasPoints}
 
 -- a rectangle with points, of coordinates that code can hold
@@ -133,4 +131,4 @@ pub record IsScanned (rects : List Rect) (z : ℤ) (t : Cover) (rest : List Rect
 pub record IsScannedInto (rects : List Rect) (z : ℤ) (t : Cover) (rest : List Rect) (list : BandList) : Type 0 where
   pub bands : Bands
   pub scanned : IsScanned rects z t rest bands
-  pub counted : IsCounted (λ v. v.items) bands list.bands.items list.count
+  pub counted : IsCounted columns_of bands list.bands.items list.count

@@ -2,11 +2,11 @@
 
 ghost use Rattle.std.specs.Prelude.{◌≡◌, ◌<◌, ◌≤◌, ◌+◌, ◌/◌, ◌^◌, ◌∷◌, ◌++◌, [], OnOk, nat_lt};
 ghost use Rattle.region.specs.Steps.{final_value, CanPush};
-ghost use Rattle.region.specs.Region.{IsColumns};
-ghost use Rattle.region.specs.Canonical.{HeldBands};
+ghost use Rattle.region.specs.Columns.{IsColumns, columns_of};
+ghost use Rattle.region.specs.Band.{HeldBands};
 ghost use Rattle.region.specs.BandList.{IsKept};
 
-use crate::rects::Band;
+use crate::band::Band;
 use crate::step::Step;
 use crate::sweep::{Output, last_value};
 use std::alloc::{AllocError, Global};
@@ -64,17 +64,17 @@ impl BandList {
 }
 
 impl Output<Vec<Step<bool>>> for BandList {
-    ghost has = { λ list bands. IsKept (λ v. v.items) bands list.bands.items list.count };
+    ghost has = { λ list bands. IsKept columns_of bands list.bands.items list.count };
 
     fn last<'a>(&'a self, empty: &'a Vec<Step<bool>>) -> &'a Vec<Step<bool>>
-        ensures { (bands : HeldBands) → IsKept (λ v. v.items) bands self.now.bands.items self.now.count → result.now ≡ final_value empty.now bands }
+        ensures { (bands : HeldBands) → IsKept columns_of bands self.now.bands.items self.now.count → result.now ≡ final_value empty.now bands }
     {
         last_value(&self.bands, empty)
     }
 
     fn push(&mut self, step: Band) -> Result<(), AllocError>
-        requires { (bands : HeldBands) × IsKept (λ v. v.items) bands self.old.bands.items self.old.count × CanPush (λ v. IsColumns v.items) bands step }
-        ensures { OnOk result ((bands : HeldBands) → IsKept (λ v. v.items) bands self.old.bands.items self.old.count → CanPush (λ v. IsColumns v.items) bands step → IsKept (λ v. v.items) (bands ++ step ∷ []) self.new.bands.items self.new.count) }
+        requires { (bands : HeldBands) × IsKept columns_of bands self.old.bands.items self.old.count × CanPush (λ v. IsColumns v.items) bands step }
+        ensures { OnOk result ((bands : HeldBands) → IsKept columns_of bands self.old.bands.items self.old.count → CanPush (λ v. IsColumns v.items) bands step → IsKept columns_of (bands ++ step ∷ []) self.new.bands.items self.new.count) }
     {
         self.count += step.value.len() as u64 / 2;
         if self.count > MOST_RECTANGLES {

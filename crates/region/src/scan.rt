@@ -4,7 +4,8 @@ ghost use Rattle.std.specs.Prelude.{◌≡◌, ◌<◌, ◌+◌, ◌^◌, ◌≤
 ghost use Rattle.std.specs.List.{All, filter};
 ghost use Rattle.geom_base.specs.Points.{is_in_some};
 ghost use Rattle.geom_base.specs.declared.point.Point.{Point};
-ghost use Rattle.region.specs.Canonical.{Bands, has_point};
+ghost use Rattle.region.specs.Columns.{columns_of};
+ghost use Rattle.region.specs.Band.{Bands, has_point};
 ghost use Rattle.region.specs.BandList.{AreCanonical, IsCounted};
 ghost use Rattle.region.specs.Cover.{strip_of, columns_in, IsCover, IsShaped};
 ghost use Rattle.region.specs.Edges.{IsRising};
@@ -106,7 +107,7 @@ fn push_band(
     requires cover { IsCover row.now cover.now }
     requires steady { row.now ≤ℤ (strip_of cover.now).steady }
     requires room { bands.old.count + (strip_of cover.now).row.runs < 2 ^ 64 }
-    ensures { OnOk result ((lists : Bands) → IsCounted (λ v. v.items) lists bands.old.bands.items bands.old.count → IsCounted (λ v. v.items) (lists ++ record { from = row.now; value = columns_in cover.now row.now } ∷ []) bands.new.bands.items bands.new.count) }
+    ensures { OnOk result ((lists : Bands) → IsCounted columns_of lists bands.old.bands.items bands.old.count → IsCounted columns_of (lists ++ record { from = row.now; value = columns_in cover.now row.now } ∷ []) bands.new.bands.items bands.new.count) }
 {
     let runs = cover.strip().row.runs;
     if bands.is_past(runs) {
@@ -132,7 +133,7 @@ fn are_equal(a: u64, b: u64, c: u64) -> bool
 
 /// The bands of the rectangles, counted.
 pub fn scanned_bands(alloc: Global, rects: &[Rect]) -> Result<BandList, AllocError>
-    ensures { IfOk result (λ r. (bands : Bands) × AreCanonical bands × ((p : Point) → has_point bands p ≡ is_in_some p rects.now) × IsCounted (λ v. v.items) bands r.bands.items r.count) }
+    ensures { IfOk result (λ r. (bands : Bands) × AreCanonical bands × ((p : Point) → has_point bands p ≡ is_in_some p rects.now) × IsCounted columns_of bands r.bands.items r.count) }
 {
     let mut bands = BandList::new(alloc);
     let sorted = sorted_rects(alloc, rects)?;

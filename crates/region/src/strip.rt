@@ -1,23 +1,12 @@
 //! Columns side by side, and what stands in a row of them.
 
-ghost use Rattle.std.specs.Prelude.{◌≡◌, ◌+◌, ◌^◌, ◌<◌, ◌≤◌, ◌≤ℤ◌, ◌<ℤ◌, ◌&&◌, int_lt, int_le, pos, negsuc};
+ghost use Rattle.std.specs.Prelude.{◌≡◌, ◌+◌, ◌^◌, ◌<◌, ◌≤ℤ◌, ◌<ℤ◌, ◌&&◌, int_lt, int_le, pos, negsuc};
 ghost use Rattle.std.specs.Int.{int_min};
-ghost use Rattle.region.specs.Strip.{full_row, empty_row, beside, seen_at, covered_until, IsSound};
+ghost use Rattle.region.specs.Row.{empty_row, beside, IsSound};
+ghost use Rattle.region.specs.Strip.{seen_at, covered_until};
 
+use crate::row::{EMPTY, Row};
 use geom_base::Rect;
-
-/// What stands in a row of some columns.
-#[derive(Clone, Copy, Debug, PartialEq, Eq)]
-pub struct Row {
-    /// How many of the cells are covered.
-    pub filled: u64,
-    /// How many runs of covered columns there are.
-    pub runs: u64,
-    /// Whether the first column is covered.
-    pub first: bool,
-    /// Whether the last column is covered.
-    pub last: bool,
-}
 
 /// The columns from one edge to before another.
 #[derive(Clone, Copy, Debug, PartialEq, Eq)]
@@ -32,44 +21,6 @@ pub struct Strip {
     pub row: Row,
     /// The last row in which it stands.
     pub steady: i32,
-}
-
-/// A row without a covered column.
-const EMPTY: Row = Row {
-    filled: 0,
-    runs: 0,
-    first: false,
-    last: false,
-};
-
-impl Row {
-    /// A row in which all of so many cells are covered.
-    fn full(size: u64) -> Row
-        ensures { result ≡ full_row size }
-    {
-        Row {
-            filled: size,
-            runs: 1,
-            first: true,
-            last: true,
-        }
-    }
-
-    /// Two rows side by side.
-    fn beside(self, right: Row) -> Row
-        requires filled { self.filled + right.filled < 2 ^ 64 }
-        requires left { IsSound self self.filled }
-        requires right { IsSound right right.filled }
-        ensures { result ≡ beside self right }
-    {
-        let joined = if self.last && right.first { 1 } else { 0 };
-        Row {
-            filled: self.filled + right.filled,
-            runs: self.runs + right.runs - joined,
-            first: self.first,
-            last: right.last,
-        }
-    }
 }
 
 impl Strip {

@@ -1,11 +1,16 @@
-//! Regions of few rectangles, their lists written out, and of too many.
+//! Operations on small regions, and the limit.
 
-use crate::{Region, RegionRefusal};
+ghost use Rattle.std.specs.Prelude.{◌+ℤ◌, ◌<◌, FitsSigned, IsTrue};
+ghost use Rattle.std.specs.Int.{w32};
+ghost use Rattle.std.specs.List.{All};
+ghost use Rattle.region.specs.Moved.{CanMove};
+
+use super::*;
 use geom_base::{Point, Rect};
-use std::alloc::Global;
+use std::alloc::{AllocError, Global};
 use std::test::Fail;
 
-fn rect(left: i32, top: i32, right: i32, bottom: i32) -> Rect {
+const fn rect(left: i32, top: i32, right: i32, bottom: i32) -> Rect {
     Rect {
         left,
         top,
@@ -14,62 +19,166 @@ fn rect(left: i32, top: i32, right: i32, bottom: i32) -> Rect {
     }
 }
 
-/// Four by two points from the origin, given as two squares.
-fn wide(alloc: Global) -> Result<Region, RegionRefusal> {
-    Region::from_rects(alloc, &[rect(0, 0, 2, 2), rect(2, 0, 4, 2)])
-}
-
-/// A square on the lower edge of the former.
-fn square(alloc: Global) -> Result<Region, RegionRefusal> {
-    Region::from_rects(alloc, &[rect(1, 1, 3, 3)])
-}
-
-#[test]
-fn touching_rectangles_are_one(rt: HostRuntime) -> Result<(), Fail> {
-    assert_eq!(rt; wide(rt.alloc())?.rects(), [rect(0, 0, 4, 2)].as_slice());
-    Ok(())
+#[derive(Drop)]
+struct Case<'a> {
+    name: &'a str,
+    a: &'a [Rect],
+    b: &'a [Rect],
+    union: &'a [Rect],
+    intersect: &'a [Rect],
+    subtract: &'a [Rect],
+    xor: &'a [Rect],
 }
 
 #[test]
-fn operations_on_two_regions(rt: HostRuntime) -> Result<(), Fail> {
+fn operations(rt: HostRuntime) -> Result<(), Fail> {
     let alloc = rt.alloc();
-    let (a, b) = (wide(alloc)?, square(alloc)?);
+    let cases = [
+        Case {
+            name: "apart",
+            a: &[rect(0, 0, 2, 2)],
+            b: &[rect(4, 0, 6, 2)],
+            union: &[rect(0, 0, 2, 2), rect(4, 0, 6, 2)],
+            intersect: &[],
+            subtract: &[rect(0, 0, 2, 2)],
+            xor: &[rect(0, 0, 2, 2), rect(4, 0, 6, 2)],
+        },
+        Case {
+            name: "touching",
+            a: &[rect(0, 0, 2, 2), rect(0, 2, 2, 4)],
+            b: &[rect(2, 0, 4, 4)],
+            union: &[rect(0, 0, 4, 4)],
+            intersect: &[],
+            subtract: &[rect(0, 0, 2, 4)],
+            xor: &[rect(0, 0, 4, 4)],
+        },
+        Case {
+            name: "overlapping",
+            a: &[rect(0, 0, 4, 4)],
+            b: &[rect(2, 2, 6, 6)],
+            union: &[rect(0, 0, 4, 2), rect(0, 2, 6, 4), rect(2, 4, 6, 6)],
+            intersect: &[rect(2, 2, 4, 4)],
+            subtract: &[rect(0, 0, 4, 2), rect(0, 2, 2, 4)],
+            xor: &[
+                rect(0, 0, 4, 2),
+                rect(0, 2, 2, 4),
+                rect(4, 2, 6, 4),
+                rect(2, 4, 6, 6),
+            ],
+        },
+        Case {
+            name: "inside, with a rectangle without points",
+            a: &[rect(0, 0, 6, 6), rect(3, 3, 3, 9)],
+            b: &[rect(2, 2, 4, 4)],
+            union: &[rect(0, 0, 6, 6)],
+            intersect: &[rect(2, 2, 4, 4)],
+            subtract: &[
+                rect(0, 0, 6, 2),
+                rect(0, 2, 2, 4),
+                rect(4, 2, 6, 4),
+                rect(0, 4, 6, 6),
+            ],
+            xor: &[
+                rect(0, 0, 6, 2),
+                rect(0, 2, 2, 4),
+                rect(4, 2, 6, 4),
+                rect(0, 4, 6, 6),
+            ],
+        },
+        Case {
+            name: "the same in another order",
+            a: &[rect(0, 0, 3, 1), rect(1, 1, 2, 2)],
+            b: &[rect(1, 1, 2, 2), rect(0, 0, 3, 1)],
+            union: &[rect(0, 0, 3, 1), rect(1, 1, 2, 2)],
+            intersect: &[rect(0, 0, 3, 1), rect(1, 1, 2, 2)],
+            subtract: &[],
+            xor: &[],
+        },
+    ];
+    for case in &cases {
+        let a = Region::from_rects(alloc, case.a)?;
+        let b = Region::from_rects(alloc, case.b)?;
+        assert_eq!(rt; a.union(alloc, &b)?.rects(), case.union, "{}", case.name);
+        assert_eq!(rt;
+            a.intersect(alloc, &b)?.rects(),
+            case.intersect,
+            "{}",
+            case.name
+        );
+        assert_eq!(rt;
+            a.subtract(alloc, &b)?.rects(),
+            case.subtract,
+            "{}",
+            case.name
+        );
+        assert_eq!(rt; a.xor(alloc, &b)?.rects(), case.xor, "{}", case.name);
+    }
+    Ok(())
+}
+
+/// Whether a sum is a coordinate.
+fn fits(a: i32, b: i32) -> bool
+    ensures { IsTrue result → FitsSigned w32 (a +ℤ b) }
+{
+    a.checked_add(b).is_some()
+}
+
+/// Whether a rectangle can be moved.
+fn can_move(rect: &Rect, by: &Point) -> bool
+    ensures { IsTrue result → CanMove by.now rect.now }
+{
+    if !fits(rect.left, by.x) {
+        return false;
+    }
+    if !fits(rect.top, by.y) {
+        return false;
+    }
+    if !fits(rect.right, by.x) {
+        return false;
+    }
+    fits(rect.bottom, by.y)
+}
+
+/// Whether all of some rectangles can be moved.
+fn can_all_move(rects: &[Rect], by: &Point) -> bool
+    ensures { IsTrue result → All (CanMove by.now) rects.now }
+{
+    for rect in rects {
+        if !can_move(rect, by) {
+            return false;
+        }
+    }
+    true
+}
+
+#[test]
+fn moved_tested_and_clipped(rt: HostRuntime) -> Result<(), Fail> {
+    let alloc = rt.alloc();
+    let region = Region::from_rects(alloc, &[rect(0, 0, 4, 2), rect(0, 2, 2, 4)])?;
+    for (x, y, want) in [
+        (0, 0, true),
+        (3, 1, true),
+        (4, 1, false),
+        (2, 2, false),
+        (1, 4, false),
+    ] {
+        assert_eq!(rt; region.holds(Point { x, y }), want, "{x} {y}");
+    }
+    let by = Point { x: -3, y: 5 };
+    assert!(rt; can_all_move(region.rects(), &by));
     assert_eq!(rt;
-        a.union(alloc, &b)?.rects(),
-        [rect(0, 0, 4, 2), rect(1, 2, 3, 3)].as_slice()
+        region.offset(alloc, by)?.rects(),
+        [rect(-3, 5, 1, 7), rect(-3, 7, -1, 9)].as_slice()
     );
     assert_eq!(rt;
-        a.intersect(alloc, &b)?.rects(),
-        [rect(1, 1, 3, 2)].as_slice()
+        region.clipped(alloc, &rect(1, 1, 9, 3))?.as_slice(),
+        [rect(1, 1, 4, 2), rect(1, 2, 2, 3)].as_slice()
     );
-    assert_eq!(rt;
-        a.subtract(alloc, &b)?.rects(),
-        [rect(0, 0, 4, 1), rect(0, 1, 1, 2), rect(3, 1, 4, 2)].as_slice()
-    );
-    assert_eq!(rt;
-        a.xor(alloc, &b)?.rects(),
-        [
-            rect(0, 0, 4, 1),
-            rect(0, 1, 1, 2),
-            rect(3, 1, 4, 2),
-            rect(1, 2, 3, 3)
-        ]
-        .as_slice()
-    );
-    assert!(rt; a.xor(alloc, &a)?.rects().is_empty());
     Ok(())
 }
 
 #[test]
-fn points_of_a_region(rt: HostRuntime) -> Result<(), Fail> {
-    let region = square(rt.alloc())?;
-    assert!(rt; region.holds(Point { x: 2, y: 2 }));
-    assert!(rt; !region.holds(Point { x: 3, y: 2 }));
-    Ok(())
-}
-
-#[test]
-fn one_rectangle_too_many(rt: HostRuntime) -> Result<(), Fail> {
+fn one_line_past_the_limit(rt: HostRuntime) -> Result<(), Fail> {
     let alloc = rt.alloc();
     let mut rects = Vec::new(alloc);
     for i in 0..4097u32 {
@@ -81,6 +190,49 @@ fn one_rectangle_too_many(rt: HostRuntime) -> Result<(), Fail> {
         Some(RegionRefusal::TooMany(4097))
     );
     let _ = rects.pop();
-    assert!(rt; Region::from_rects(alloc, &rects).is_ok());
+    assert_eq!(rt; Region::from_rects(alloc, &rects)?.rects().len(), 4096);
+    Ok(())
+}
+
+/// So many lines with gaps between them, and as many columns.
+fn stripes(alloc: Global, count: u32) -> Result<(Vec<Rect>, Vec<Rect>), AllocError>
+    requires { count < 1000 }
+{
+    let mut across = Vec::new(alloc);
+    let mut down = Vec::new(alloc);
+    for i in 0..count {
+        let place = 2 * i as i32;
+        across.push(rect(0, place, 140, place + 1))?;
+        down.push(rect(place, 0, place + 1, 140))?;
+    }
+    Ok((across, down))
+}
+
+#[test]
+fn stripes_across_stripes(rt: HostRuntime) -> Result<(), Fail> {
+    let alloc = rt.alloc();
+    let (mut rects, columns) = stripes(alloc, 70)?;
+    let across = Region::from_rects(alloc, &rects)?;
+    let down = Region::from_rects(alloc, &columns)?;
+    let answers = [
+        (across.union(alloc, &down).err(), 4970),
+        (across.intersect(alloc, &down).err(), 4900),
+        (across.subtract(alloc, &down).err(), 4900),
+        (across.xor(alloc, &down).err(), 9800),
+    ];
+    for (answer, want) in answers {
+        assert_eq!(rt; answer, Some(RegionRefusal::TooMany(want)));
+    }
+    for column in &columns {
+        rects.push(*column)?;
+    }
+    let many = Region::from_rects(alloc, &rects).err();
+    assert_eq!(rt; many, Some(RegionRefusal::TooMany(4970)));
+    rects.push(rect(0, 0, 140, 140))?;
+    let whole = [rect(0, 0, 140, 140)];
+    assert_eq!(rt;
+        Region::from_rects(alloc, &rects)?.rects(),
+        whole.as_slice()
+    );
     Ok(())
 }

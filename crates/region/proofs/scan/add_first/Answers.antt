@@ -1,7 +1,7 @@
-use Rattle.std.proofs.Common.{◌≡◌, ◌∙◌, ◌∷◌, get_or, ap, ◌≤ℤ◌, ◌<ℤ◌, ◌+ℤ◌, pos, negsuc, sym, subst, arith, zero}
+use Rattle.std.proofs.Common.{◌≡◌, ◌∙◌, ◌∷◌, get_or, ap, sym, arith}
 use Rattle.std.proofs.lemmas.Int.{ints}
 use Rattle.geom_base.specs.Points.{no_rect}
-use Rattle.region.proofs.ScanLemmas.{begun_none, begun_more, first_of, later_none, later_first, first_solid}
+use Rattle.region.proofs.ScanLemmas.{begun_none, begun_more, first_of, later_first, first_solid}
 use Rattle.region.proofs.scan.add_first.Goals as goal
 
 pub loop-rest-init : goal.loop-rest-init

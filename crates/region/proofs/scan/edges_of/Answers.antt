@@ -1,4 +1,4 @@
-use Rattle.std.proofs.Common.{◌≡◌, sym, subst, get_or, arith, rules, SFits, w32, to_z, of_z}
+use Rattle.std.proofs.Common.{sym, subst, get_or, arith, rules, SFits, w32, to_z, of_z}
 use Rattle.std.proofs.lemmas.Int.{ints, to_z-of_z}
 use Rattle.std.proofs.lemmas.Bool.Decides.{nat_tests}
 use Rattle.std.proofs.lemmas.Cmp.{int_cmp_total, int_eq_equiv}

@@ -1,11 +1,11 @@
-use Rattle.std.proofs.Common.{◌≡◌, ◌∙◌, ◌≤◌, length, ap, sym, subst, refl, arith, rules, get_or, SFits, w32, to_z, of_z}
+use Rattle.std.proofs.Common.{◌∙◌, ◌≤◌, length, ap, sym, subst, rules, get_or, SFits, w32, to_z, of_z}
 use Rattle.std.proofs.lemmas.Int.{to_z-of_z}
 use Rattle.std.proofs.lemmas.Bool.{false≢true}
 use Rattle.std.specs.List.{All}
 use Rattle.geom_base.specs.Points.{no_rect}
 use Rattle.region.specs.Edges.{IsOver}
-use Rattle.region.specs.Scan.{IsNextRow, HasBothEdges, IsArranged, IsScannedInto}
-use Rattle.region.proofs.ScanTurnLemmas.{turn_of, first_edges, into_none, into_seen, into_same, into_new, into_room, into_falls, into_all, nothing_scanned}
+use Rattle.region.specs.Scan.{IsNextRow, HasBothEdges, IsScannedInto}
+use Rattle.region.proofs.ScanTurnLemmas.{turn_of, first_edges, into_none, into_seen, into_same, into_new, into_room, into_falls, into_all}
 use Rattle.region.proofs.scan.scanned_bands.Goals as goal
 
 pub over-requires-clause-two : goal.over-requires-clause-two

@@ -1,4 +1,4 @@
-use Rattle.std.proofs.Common.{◌≡◌, ◌∙◌, ◌+◌, ◌-◌, ◌/◌, refl, ap, sym, subst, arith}
+use Rattle.std.proofs.Common.{◌≡◌, ◌∙◌, ◌+◌, ◌-◌, ◌/◌, refl, subst, arith}
 use Rattle.region.specs.Cover.{strip_of}
 use Rattle.region.specs.Edges.{IsBuilt}
 use Rattle.region.proofs.EdgeLemmas.{new_strip, pair_is_built}

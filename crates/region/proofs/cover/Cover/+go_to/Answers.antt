@@ -1,4 +1,4 @@
-use Rattle.std.proofs.Common.{◌≡◌, ◌∙◌, ◌≤ℤ◌, ap, sym, subst, arith, pos}
+use Rattle.std.proofs.Common.{◌∙◌, ◌≤ℤ◌, ap, sym, subst, arith, pos}
 use Rattle.std.proofs.lemmas.Int.{ints}
 use Rattle.region.specs.declared.cover.Cover.TheVariants.{Cell}
 use Rattle.region.specs.Cover.{strip_of, IsCover, IsMoved}

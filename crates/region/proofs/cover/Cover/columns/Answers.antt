@@ -1,6 +1,6 @@
-use Rattle.std.proofs.Common.{◌≡◌, ◌∙◌, ◌++◌, ap, sym, subst, arith, false}
+use Rattle.std.proofs.Common.{◌≡◌, ◌∙◌, ◌++◌, ap, arith, false}
 use Rattle.std.proofs.lemmas.Int.{ints}
-use Rattle.region.specs.Cover.{strip_of, steps_in, change, last_in}
+use Rattle.region.specs.Cover.{steps_in, change, last_in}
 use Rattle.region.proofs.CoverTurnLemmas.{told}
 use Rattle.region.proofs.cover.Cover.columns.Goals as goal
 

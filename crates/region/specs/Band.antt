@@ -1,0 +1,57 @@
+-- Bands: from a row on, a set of columns.
+use Rattle.std.specs.Prelude.{◌≡◌, ℤ, List, [], ◌∷◌, ◌++◌, Bool, if◌then◌else◌, Vec}
+use Rattle.std.specs.Global.{Global}
+use Rattle.geom_base.specs.declared.point.Point.{Point}
+use Rattle.geom_base.specs.declared.rect.Rect.{Rect}
+use Rattle.region.specs.declared.step.Step.{Step}
+use Rattle.region.specs.Steps.{value_at, final_value, AllValid, IsReduced}
+use Rattle.region.specs.Columns.{Columns, has_column, HasColumns, IsColumns}
+
+-- from a row on, the columns of the set
+abbrev pub Bands : Type 0
+Bands = List (Step Columns)
+
+-- a point is in the set
+abbrev pub has_point : Bands → Point → Bool
+has_point bands p = has_column (value_at [] bands p.y) p.x
+
+-- the bands are in order and touching ones differ, and so are the columns of each; both are finite
+pub record IsCanonical (bands : Bands) : Type 0 where
+  pub reduced : IsReduced has_column [] bands
+  pub values : AllValid HasColumns bands
+  pub ends : final_value [] bands ≡ []
+
+-- the rectangle of two steps in a row, where the first begins columns of the set
+abbrev pub span_rects : ℤ → ℤ → Step Bool → Step Bool → List Rect
+span_rects top bottom s t = if s.value then record { left = s.from; top = top; right = t.from; bottom = bottom } ∷ [] else []
+
+-- the rectangles of a band, given its columns
+abbrev pub row_rects : ℤ → ℤ → List (Step Bool) → List Rect
+row_rects top bottom [] = []
+row_rects top bottom (s ∷ []) = []
+row_rects top bottom (s ∷ t ∷ steps) = span_rects top bottom s t ++ row_rects top bottom (t ∷ steps)
+
+-- the rectangles of bands, given the columns of each
+abbrev pub rects_of : {V : Type 0} → (V → List (Step Bool)) → List (Step V) → List Rect
+rects_of columns [] = []
+rects_of columns (b ∷ []) = []
+rects_of columns (b ∷ c ∷ bands) = row_rects b.from c.from (columns b.value) ++ rects_of columns (c ∷ bands)
+
+-- the bands of code, given the columns of each
+abbrev pub lists_of : {V : Type 0} → (V → Columns) → List (Step V) → Bands
+lists_of columns [] = []
+lists_of columns (b ∷ bands) = record { from = b.from; value = columns b.value } ∷ lists_of columns bands
+
+-- bands as code holds them
+abbrev pub HeldBands : Type 0
+HeldBands = List (Step (Vec (Step Bool) Global))
+
+-- canonical bands as code holds them
+pub record IsBands {V : Type 0} (columns : V → Columns) (bands : List (Step V)) : Type 0 where
+  pub canonical : IsCanonical (lists_of columns bands)
+  pub values : AllValid (λ v. IsColumns (columns v)) bands
+
+-- canonical bands of a set
+pub record AreBandsOf {V : Type 0} (columns : V → Columns) (set : Point → Bool) (bands : List (Step V)) : Type 0 where
+  pub held : IsBands columns bands
+  pub points : (p : Point) → has_point (lists_of columns bands) p ≡ set p
