@@ -9,6 +9,7 @@ use Rattle.region.specs.declared.cover.Cover.TheVariants.{Cell, Pair'}
 use Rattle.region.specs.Strip.{within}
 use Rattle.region.specs.BandList.{run_count}
 
+-- the columns of a cover, and what stands in its present row
 abbrev pub strip_of : Cover → Strip
 strip_of (Cell s) = s
 strip_of (Pair' s p l q r) = s

@@ -11,6 +11,7 @@ abbrev pub IsRisingFrom : ℤ → List ℤ → Type 0
 IsRisingFrom from [] = Unit {0}
 IsRisingFrom from (e ∷ edges) = (from <ℤ e) × IsRisingFrom e edges
 
+-- each edge is to the right of the one before
 abbrev pub IsRising : List ℤ → Type 0
 IsRising [] = Unit {0}
 IsRising (e ∷ edges) = IsRisingFrom e edges

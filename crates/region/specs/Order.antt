@@ -12,9 +12,11 @@ ComesFirst a b = ((a.top ≡ b.top) × (a.bottom ≡ b.bottom) × (a.right <ℤ 
 abbrev pub HasPoints : Rect → Type 0
 HasPoints r = (r.left <ℤ r.right) × (r.top <ℤ r.bottom)
 
+-- each rectangle has points and comes before all later ones
 pub record IsInOrder (rects : List Rect) : Type 0 where
   pub order : AllPairs ComesFirst rects
   pub points : All HasPoints rects
 
+-- so are the rectangles of every region
 abbrev pub RegionIsInOrder : Type 0
 RegionIsInOrder = (rects : List Rect) → IsRegion rects → IsInOrder rects

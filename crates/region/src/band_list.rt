@@ -1,6 +1,6 @@
 //! Bands from top to bottom, and the number of their rectangles.
 
-ghost use Rattle.std.specs.Prelude.{◌≡◌, ◌<◌, ◌≤◌, ◌+◌, ◌/◌, ◌^◌, ◌∷◌, ◌++◌, [], OnOk, nat_lt};
+ghost use Rattle.std.specs.Prelude.{◌≡◌, ◌<◌, ◌+◌, ◌/◌, ◌^◌, ◌∷◌, ◌++◌, [], OnOk, nat_lt};
 ghost use Rattle.region.specs.Steps.{final_value, CanPush};
 ghost use Rattle.region.specs.Columns.{IsColumns, columns_of};
 ghost use Rattle.region.specs.Band.{HeldBands};

@@ -1,6 +1,6 @@
 //! Sets of points.
 
-ghost use Rattle.std.specs.Prelude.{◌≡◌, ◌≤◌, ◌↔◌, [], ◌||◌, ◌&&◌, not, Bool, length, IfOk, MatchResult, IsTrue, ℤ, if◌then◌else◌};
+ghost use Rattle.std.specs.Prelude.{◌≡◌, ◌≤◌, ◌||◌, ◌&&◌, not, length, IfOk, if◌then◌else◌};
 ghost use Rattle.std.specs.List.{All, AllPairs};
 ghost use Rattle.geom_base.specs.Points.{is_in, is_in_some, AreApart};
 ghost use Rattle.region.specs.BandList.{IsCounted, AreCanonical};

@@ -1,13 +1,13 @@
 //! The bands of rectangles, row after row.
 
-ghost use Rattle.std.specs.Prelude.{◌≡◌, ◌<◌, ◌+◌, ◌^◌, ◌≤◌, ◌≤ℤ◌, ◌↔◌, ◌∷◌, ◌++◌, [], pos, negsuc, length, IfOk, OnOk, MatchOption, IsTrue};
+ghost use Rattle.std.specs.Prelude.{◌≡◌, ◌<◌, ◌+◌, ◌^◌, ◌≤◌, ◌≤ℤ◌, ◌↔◌, ◌∷◌, ◌++◌, [], pos, IfOk, OnOk, MatchOption, IsTrue};
 ghost use Rattle.std.specs.List.{All, filter};
 ghost use Rattle.geom_base.specs.Points.{is_in_some};
 ghost use Rattle.geom_base.specs.declared.point.Point.{Point};
 ghost use Rattle.region.specs.Columns.{columns_of};
 ghost use Rattle.region.specs.Band.{Bands, has_point};
 ghost use Rattle.region.specs.BandList.{AreCanonical, IsCounted};
-ghost use Rattle.region.specs.Cover.{strip_of, columns_in, IsCover, IsShaped};
+ghost use Rattle.region.specs.Cover.{strip_of, columns_in, IsCover};
 ghost use Rattle.region.specs.Edges.{IsRising};
 ghost use Rattle.region.specs.Scan.{HasBothEdges, IsSolid, IsArranged, AreReady, BeginBelow, HaveBegun, IsNextRow, has_points};
 
