@@ -8,6 +8,7 @@ ghost use Rattle.region.specs.Moved.{CanMove};
 use super::*;
 use geom_base::{Point, Rect};
 use std::alloc::{AllocError, Global};
+use std::process::Abort;
 use std::test::Fail;
 
 const fn rect(left: i32, top: i32, right: i32, bottom: i32) -> Rect {
@@ -21,7 +22,6 @@ const fn rect(left: i32, top: i32, right: i32, bottom: i32) -> Rect {
 
 #[derive(Drop)]
 struct Case<'a> {
-    name: &'a str,
     a: &'a [Rect],
     b: &'a [Rect],
     union: &'a [Rect],
@@ -30,90 +30,95 @@ struct Case<'a> {
     xor: &'a [Rect],
 }
 
-#[test]
-fn operations(rt: HostRuntime) -> Result<(), Fail> {
-    let alloc = rt.alloc();
-    let cases = [
-        Case {
-            name: "apart",
-            a: &[rect(0, 0, 2, 2)],
-            b: &[rect(4, 0, 6, 2)],
-            union: &[rect(0, 0, 2, 2), rect(4, 0, 6, 2)],
-            intersect: &[],
-            subtract: &[rect(0, 0, 2, 2)],
-            xor: &[rect(0, 0, 2, 2), rect(4, 0, 6, 2)],
-        },
-        Case {
-            name: "touching",
-            a: &[rect(0, 0, 2, 2), rect(0, 2, 2, 4)],
-            b: &[rect(2, 0, 4, 4)],
-            union: &[rect(0, 0, 4, 4)],
-            intersect: &[],
-            subtract: &[rect(0, 0, 2, 4)],
-            xor: &[rect(0, 0, 4, 4)],
-        },
-        Case {
-            name: "overlapping",
-            a: &[rect(0, 0, 4, 4)],
-            b: &[rect(2, 2, 6, 6)],
-            union: &[rect(0, 0, 4, 2), rect(0, 2, 6, 4), rect(2, 4, 6, 6)],
-            intersect: &[rect(2, 2, 4, 4)],
-            subtract: &[rect(0, 0, 4, 2), rect(0, 2, 2, 4)],
-            xor: &[
-                rect(0, 0, 4, 2),
-                rect(0, 2, 2, 4),
-                rect(4, 2, 6, 4),
-                rect(2, 4, 6, 6),
-            ],
-        },
-        Case {
-            name: "inside, with a rectangle without points",
-            a: &[rect(0, 0, 6, 6), rect(3, 3, 3, 9)],
-            b: &[rect(2, 2, 4, 4)],
-            union: &[rect(0, 0, 6, 6)],
-            intersect: &[rect(2, 2, 4, 4)],
-            subtract: &[
-                rect(0, 0, 6, 2),
-                rect(0, 2, 2, 4),
-                rect(4, 2, 6, 4),
-                rect(0, 4, 6, 6),
-            ],
-            xor: &[
-                rect(0, 0, 6, 2),
-                rect(0, 2, 2, 4),
-                rect(4, 2, 6, 4),
-                rect(0, 4, 6, 6),
-            ],
-        },
-        Case {
-            name: "the same in another order",
-            a: &[rect(0, 0, 3, 1), rect(1, 1, 2, 2)],
-            b: &[rect(1, 1, 2, 2), rect(0, 0, 3, 1)],
-            union: &[rect(0, 0, 3, 1), rect(1, 1, 2, 2)],
-            intersect: &[rect(0, 0, 3, 1), rect(1, 1, 2, 2)],
-            subtract: &[],
-            xor: &[],
-        },
-    ];
-    for case in &cases {
-        let a = Region::from_rects(alloc, case.a)?;
-        let b = Region::from_rects(alloc, case.b)?;
-        assert_eq!(rt; a.union(alloc, &b)?.rects(), case.union, "{}", case.name);
-        assert_eq!(rt;
-            a.intersect(alloc, &b)?.rects(),
-            case.intersect,
-            "{}",
-            case.name
-        );
-        assert_eq!(rt;
-            a.subtract(alloc, &b)?.rects(),
-            case.subtract,
-            "{}",
-            case.name
-        );
-        assert_eq!(rt; a.xor(alloc, &b)?.rects(), case.xor, "{}", case.name);
-    }
+/// The operations on the regions of a case.
+fn compare(rt: &impl Abort, alloc: Global, case: &Case<'_>) -> Result<(), Fail> {
+    let a = Region::from_rects(alloc, case.a)?;
+    let b = Region::from_rects(alloc, case.b)?;
+    assert_eq!(rt; a.union(alloc, &b)?.rects(), case.union);
+    assert_eq!(rt; a.intersect(alloc, &b)?.rects(), case.intersect);
+    assert_eq!(rt; a.subtract(alloc, &b)?.rects(), case.subtract);
+    assert_eq!(rt; a.xor(alloc, &b)?.rects(), case.xor);
     Ok(())
+}
+
+#[test]
+fn apart(rt: HostRuntime) -> Result<(), Fail> {
+    let case = Case {
+        a: &[rect(0, 0, 2, 2)],
+        b: &[rect(4, 0, 6, 2)],
+        union: &[rect(0, 0, 2, 2), rect(4, 0, 6, 2)],
+        intersect: &[],
+        subtract: &[rect(0, 0, 2, 2)],
+        xor: &[rect(0, 0, 2, 2), rect(4, 0, 6, 2)],
+    };
+    compare(&rt, rt.alloc(), &case)
+}
+
+#[test]
+fn touching(rt: HostRuntime) -> Result<(), Fail> {
+    let case = Case {
+        a: &[rect(0, 0, 2, 2), rect(0, 2, 2, 4)],
+        b: &[rect(2, 0, 4, 4)],
+        union: &[rect(0, 0, 4, 4)],
+        intersect: &[],
+        subtract: &[rect(0, 0, 2, 4)],
+        xor: &[rect(0, 0, 4, 4)],
+    };
+    compare(&rt, rt.alloc(), &case)
+}
+
+#[test]
+fn overlapping(rt: HostRuntime) -> Result<(), Fail> {
+    let case = Case {
+        a: &[rect(0, 0, 4, 4)],
+        b: &[rect(2, 2, 6, 6)],
+        union: &[rect(0, 0, 4, 2), rect(0, 2, 6, 4), rect(2, 4, 6, 6)],
+        intersect: &[rect(2, 2, 4, 4)],
+        subtract: &[rect(0, 0, 4, 2), rect(0, 2, 2, 4)],
+        xor: &[
+            rect(0, 0, 4, 2),
+            rect(0, 2, 2, 4),
+            rect(4, 2, 6, 4),
+            rect(2, 4, 6, 6),
+        ],
+    };
+    compare(&rt, rt.alloc(), &case)
+}
+
+#[test]
+fn inside_with_a_rectangle_without_points(rt: HostRuntime) -> Result<(), Fail> {
+    let case = Case {
+        a: &[rect(0, 0, 6, 6), rect(3, 3, 3, 9)],
+        b: &[rect(2, 2, 4, 4)],
+        union: &[rect(0, 0, 6, 6)],
+        intersect: &[rect(2, 2, 4, 4)],
+        subtract: &[
+            rect(0, 0, 6, 2),
+            rect(0, 2, 2, 4),
+            rect(4, 2, 6, 4),
+            rect(0, 4, 6, 6),
+        ],
+        xor: &[
+            rect(0, 0, 6, 2),
+            rect(0, 2, 2, 4),
+            rect(4, 2, 6, 4),
+            rect(0, 4, 6, 6),
+        ],
+    };
+    compare(&rt, rt.alloc(), &case)
+}
+
+#[test]
+fn the_same_in_another_order(rt: HostRuntime) -> Result<(), Fail> {
+    let case = Case {
+        a: &[rect(0, 0, 3, 1), rect(1, 1, 2, 2)],
+        b: &[rect(1, 1, 2, 2), rect(0, 0, 3, 1)],
+        union: &[rect(0, 0, 3, 1), rect(1, 1, 2, 2)],
+        intersect: &[rect(0, 0, 3, 1), rect(1, 1, 2, 2)],
+        subtract: &[],
+        xor: &[],
+    };
+    compare(&rt, rt.alloc(), &case)
 }
 
 /// Whether a sum is a coordinate.
