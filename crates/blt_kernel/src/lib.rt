@@ -16,3 +16,6 @@ mod there;
 pub use blt::bit_blt_rect;
 pub use copy::copy_rect;
 pub use paint::paint_rect;
+
+#[cfg(test)]
+mod tests;
