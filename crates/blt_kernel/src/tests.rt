@@ -1,6 +1,6 @@
 //! Copies, raster operations and paints whose outcomes an independent model gave.
 
-ghost use Rattle.std.specs.Prelude.{◌≡◌, ◌≤◌, IfSome};
+ghost use Rattle.std.specs.Prelude.{◌≡◌, ◌≤◌, IfSome, None};
 ghost use Rattle.geom_base.specs.Points.{LiesIn};
 ghost use Rattle.pix_format.specs.Value.{bits_of};
 ghost use Rattle.pix_format.specs.declared.format.Format.TheVariants.{B8};
@@ -12,6 +12,7 @@ use geom_base::{Point, Rect, Size, Target};
 use pix_format::{ColourTable, Format, Rgb, XlateObj};
 use rop_mix::{Mix, Rop4};
 use std::alloc::{AllocError, Global};
+use std::process::Abort;
 use surf_obj::{LentSurf, LentView};
 
 const WHITE: Rgb = Rgb {
@@ -255,6 +256,31 @@ fn rows_of_three_bytes_a_pixel(rt: HostRuntime) -> Result<(), AllocError> {
     Ok(())
 }
 
+/// A paint of the whole target in a mix.
+fn mixed(rt: &impl Abort, number: u8) -> PaintCall {
+    PaintCall {
+        target: Target::Screen,
+        rect: rect(0, 0, 10, 2),
+        origin: Point { x: 3, y: -4 },
+        mix: Mix::of(number).expect(rt, "the number is from 1 to 16"),
+    }
+}
+
+/// A raster operation on the whole target, without a source.
+fn without_source(code: u16) -> BltCall
+    ensures { result.held ≡ None }
+{
+    BltCall {
+        target: Target::Screen,
+        rect: rect(0, 0, 10, 2),
+        held: None,
+        src: ORIGIN,
+        mask: ORIGIN,
+        origin: Point { x: 3, y: -4 },
+        rop: Rop4::of(code),
+    }
+}
+
 /// Each step is drawn on what the one before left.
 #[test]
 fn hatches_and_mixes(rt: HostRuntime) -> Result<(), AllocError> {
@@ -265,39 +291,22 @@ fn hatches_and_mixes(rt: HostRuntime) -> Result<(), AllocError> {
     let white = BrushObj::solid(alloc, WHITE);
     let mut bytes = [0; 20];
     let mut dst = LentSurf::on(&mut bytes, WIDE, Format::B8, 10, false);
-    let mut paint = PaintCall {
-        target: Target::Screen,
-        rect: rect(0, 0, 10, 2),
-        origin: Point { x: 3, y: -4 },
-        mix: Mix::of(13).expect(&rt, "the number is from 1 to 16"),
-    };
-    paint_rect(&mut dst, rect(0, 0, 10, 2), &paint, &table, &hatch);
-    paint.mix = Mix::of(7).expect(&rt, "the number is from 1 to 16");
-    paint_rect(&mut dst, rect(2, 1, 9, 2), &paint, &table, &white);
-    let mut blt = BltCall {
-        target: Target::Screen,
-        rect: rect(0, 0, 10, 2),
-        held: None,
-        src: ORIGIN,
-        mask: ORIGIN,
-        origin: Point { x: 3, y: -4 },
-        rop: Rop4::of(0x5555),
-    };
+    paint_rect(&mut dst, rect(0, 0, 10, 2), &mixed(&rt, 13), &table, &hatch);
+    paint_rect(&mut dst, rect(2, 1, 9, 2), &mixed(&rt, 7), &table, &white);
     bit_blt_rect(
         &mut dst,
         rect(1, 0, 8, 2),
-        &blt,
+        &without_source(0x5555),
         None,
         None,
         &xlate,
         &table,
         &hatch,
     );
-    blt.rop = Rop4::of(0xa0a0);
     bit_blt_rect(
         &mut dst,
         rect(0, 0, 9, 1),
-        &blt,
+        &without_source(0xa0a0),
         None,
         None,
         &xlate,
