@@ -22,7 +22,7 @@ use Rattle.brush_obj.specs.Brush.{brush_value}
 use Rattle.brush_obj.specs.Calls.{Operands, new_of_blt, combined, operand, source_value, mask_value, value_in, point_across, blt_of, new_of_copy, source_alone}
 use Rattle.brush_obj.specs.declared.blt_call.BltCall.{BltCall}
 use Rattle.brush_obj.specs.declared.copy_call.CopyCall.{CopyCall}
-use Rattle.blt_kernel.specs.Drawing.{ink_at, source_or_none, mask_or_none, IsTranslated}
+use Rattle.blt_kernel.specs.Drawing.{ink_at, source_or_zero, mask_or_zero, IsTranslated}
 use Rattle.blt_kernel.specs.Given.{IsShown, IsSource, IsMask, TranslatesFrom, source_given, mask_given, across_from, CopiesWith}
 use Rattle.blt_kernel.specs.There.{source_is_there, mask_is_there, drawn_there}
 use Rattle.blt_kernel.specs.declared.across.Across.{Across}
@@ -48,7 +48,7 @@ shown_value size values None q h = absurd h
 -- the source as an operand
 source_operand : (needed : Bool) (lent : Option (Bor LentView)) (held : Option Target) (dst : LentSurf) (s : Option Surface) (across : Across) (xlate : Bor Translation) (p : Point) → IsSource lent held dst s → (needed ≡ true → held ≡ None → lent ≡ None → ⊥) →
     operand needed (option_map (translated xlate.now) (value_in s (point_across across.rect across.at p)))
-    ≡ if_there (source_is_there (source_given needed lent across xlate) (size_of dst) p) (source_or_none (source_given needed lent across xlate) (size_of dst) (values_of dst) p)
+    ≡ if_there (source_is_there (source_given needed lent across xlate) (size_of dst) p) (source_or_zero (source_given needed lent across xlate) (size_of dst) (values_of dst) p)
 source_operand false lent held dst s across xlate p is some = refl
 source_operand true (Some view) held dst s across xlate p is some =
     let q = point_across across.rect across.at p in
@@ -60,7 +60,7 @@ source_operand true None None dst s across xlate p is some = absurd (some refl r
 
 -- the mask as an operand
 mask_operand : (needed : Bool) (lent : Option (Bor LentView)) (m : Option Surface) (across : Across) (p : Point) → IsMask lent m → (needed ≡ true → lent ≡ None → ⊥) →
-    operand needed (value_in m (point_across across.rect across.at p)) ≡ if_there (mask_is_there (mask_given needed lent across) p) (mask_or_none (mask_given needed lent across) p)
+    operand needed (value_in m (point_across across.rect across.at p)) ≡ if_there (mask_is_there (mask_given needed lent across) p) (mask_or_zero (mask_given needed lent across) p)
 mask_operand false lent m across p is some = refl
 mask_operand true (Some view) m across p is some = shown_value (view_size view.now) (view_values view.now) m (point_across across.rect across.at p) is
 mask_operand true None m across p is some = absurd (some refl refl)
@@ -77,7 +77,7 @@ pub blt_gives : (d : Drawing) (call : BltCall) (o : Operands) (dst : LentSurf) (
     d.source ≡ source_given (source_needed call.rop.code) src (across_from call.rect call.src) xlate → d.mask ≡ mask_given (mask_needed call.rop.code) mask (across_from call.rect call.mask) →
     ink_at d.ink (format_of dst) p ≡ cond (pattern_needed call.rop.code) (brush_value o.brush o.format o.table call.origin p) 0 →
     IsSource src call.held dst o.source → o.xlate ≡ xlate.now → o.format ≡ format_of dst →
-    operand (mask_needed call.rop.code) (mask_value o call.rect call.mask p) ≡ if_there (mask_is_there (mask_given (mask_needed call.rop.code) mask (across_from call.rect call.mask)) p) (mask_or_none (mask_given (mask_needed call.rop.code) mask (across_from call.rect call.mask)) p) →
+    operand (mask_needed call.rop.code) (mask_value o call.rect call.mask p) ≡ if_there (mask_is_there (mask_given (mask_needed call.rop.code) mask (across_from call.rect call.mask)) p) (mask_or_zero (mask_given (mask_needed call.rop.code) mask (across_from call.rect call.mask)) p) →
     (source_needed call.rop.code ≡ true → call.held ≡ None → src ≡ None → ⊥) →
     drawn_there d (size_of dst) (format_of dst) (values_of dst) p was ≡ new_of_blt call o p was
 blt_gives d call o dst src mask xlate p was code source bits ink is xl form masked some =
@@ -85,13 +85,13 @@ blt_gives d call o dst src mask xlate p was code source bits ink is xl form mask
     let to_mask = across_from call.rect call.mask in
     let sg = source_given (source_needed call.rop.code) src across xlate in
     let mg = mask_given (mask_needed call.rop.code) mask to_mask in
-    let v = source_or_none sg (size_of dst) (values_of dst) p in
-    let m = mask_or_none mg p in
+    let v = source_or_zero sg (size_of dst) (values_of dst) p in
+    let m = mask_or_zero mg p in
     let pattern = cond (pattern_needed call.rop.code) (brush_value o.brush o.format o.table call.origin p) 0 in
     let n = bits_of (format_of dst) in
     let drew : drawn_there d (size_of dst) (format_of dst) (values_of dst) p was ≡ cond (source_is_there sg (size_of dst) p && mask_is_there mg p) (Some (rop4_of call.rop.code (m == 1) pattern v was n)) None
-    = ap (λ (s : Option Source). cond (source_is_there s (size_of dst) p && mask_is_there d.mask p) (Some (rop4_of d.rop.code (mask_or_none d.mask p == 1) (ink_at d.ink (format_of dst) p) (source_or_none s (size_of dst) (values_of dst) p) was n)) None) source
-    ∙ ap (λ (t : Option Mask). cond (source_is_there sg (size_of dst) p && mask_is_there t p) (Some (rop4_of d.rop.code (mask_or_none t p == 1) (ink_at d.ink (format_of dst) p) v was n)) None) bits
+    = ap (λ (s : Option Source). cond (source_is_there s (size_of dst) p && mask_is_there d.mask p) (Some (rop4_of d.rop.code (mask_or_zero d.mask p == 1) (ink_at d.ink (format_of dst) p) (source_or_zero s (size_of dst) (values_of dst) p) was n)) None) source
+    ∙ ap (λ (t : Option Mask). cond (source_is_there sg (size_of dst) p && mask_is_there t p) (Some (rop4_of d.rop.code (mask_or_zero t p == 1) (ink_at d.ink (format_of dst) p) v was n)) None) bits
     ∙ ap (λ (i : ℕ). cond (source_is_there sg (size_of dst) p && mask_is_there mg p) (Some (rop4_of d.rop.code (m == 1) i v was n)) None) ink
     ∙ ap (λ (k : ℕ). cond (source_is_there sg (size_of dst) p && mask_is_there mg p) (Some (rop4_of k (m == 1) pattern v was n)) None) code in
     let read : operand (source_needed call.rop.code) (source_value o call.rect call.src p) ≡ if_there (source_is_there sg (size_of dst) p) v
@@ -103,7 +103,7 @@ blt_gives d call o dst src mask xlate p was code source bits ink is xl form mask
     ∙ ap (λ (f : Format). combined call.rop.code (bits_of f) (if_there (source_is_there sg (size_of dst) p) v) (if_there (mask_is_there mg p) m) pattern was) form)
 
 pub mask_given_operand : (o : Operands) (call : BltCall) (mask : Option (Bor LentView)) (p : Point) → IsMask mask o.mask → (mask_needed call.rop.code ≡ true → mask ≡ None → ⊥) →
-    operand (mask_needed call.rop.code) (mask_value o call.rect call.mask p) ≡ if_there (mask_is_there (mask_given (mask_needed call.rop.code) mask (across_from call.rect call.mask)) p) (mask_or_none (mask_given (mask_needed call.rop.code) mask (across_from call.rect call.mask)) p)
+    operand (mask_needed call.rop.code) (mask_value o call.rect call.mask p) ≡ if_there (mask_is_there (mask_given (mask_needed call.rop.code) mask (across_from call.rect call.mask)) p) (mask_or_zero (mask_given (mask_needed call.rop.code) mask (across_from call.rect call.mask)) p)
 mask_given_operand o call mask p is some = mask_operand (mask_needed call.rop.code) mask o.mask (across_from call.rect call.mask) p is some
 
 -- without a source or a mask that is needed nothing is drawn

@@ -15,7 +15,7 @@ use Rattle.rop_mix.proofs.MixLemmas.{checked_below}
 use Rattle.surf_obj.specs.Lent.{size_of, format_of, values_of}
 use Rattle.surf_obj.specs.Surface.{point_at, value_at}
 use Rattle.surf_obj.specs.declared.lent.LentSurf.{LentSurf}
-use Rattle.blt_kernel.specs.Drawing.{GivesRun, drawn_value, ink_at, source_or_none, mask_or_none}
+use Rattle.blt_kernel.specs.Drawing.{GivesRun, drawn_value, ink_at, source_or_zero, mask_or_zero}
 use Rattle.blt_kernel.specs.declared.drawing.Drawing.{Drawing}
 use Rattle.blt_kernel.specs.declared.mask.Mask.{Mask}
 use Rattle.blt_kernel.specs.declared.ink.Ink.TheVariants.{Solid}
@@ -39,15 +39,15 @@ gives d dst x y values same = record {
 
 -- without a mask the second code acts
 pub drawn_value-unmasked : (d : Drawing) (size : Size) (format : Format) (values : List ℕ) (p : Point) (old : ℕ) → d.mask ≡ None →
-    drawn_value d size format values p old ≡ rop3_of (d.rop.code / 256) (ink_at d.ink format p) (source_or_none d.source size values p) old (bits_of format)
+    drawn_value d size format values p old ≡ rop3_of (d.rop.code / 256) (ink_at d.ink format p) (source_or_zero d.source size values p) old (bits_of format)
 drawn_value-unmasked d size format values p old none =
-    ap (λ (m : Option Mask). rop4_of d.rop.code (mask_or_none m p == 1) (ink_at d.ink format p) (source_or_none d.source size values p) old (bits_of format)) none
+    ap (λ (m : Option Mask). rop4_of d.rop.code (mask_or_zero m p == 1) (ink_at d.ink format p) (source_or_zero d.source size values p) old (bits_of format)) none
 
 -- a run by one code
 pub row_gives : (d : Drawing) (dst : LentSurf) (x y : ℕ) (run : List ℕ) (code bits : ℕ) (p s old : ℕ → ℕ) → d.mask ≡ None → code ≡ d.rop.code / 256 → bits ≡ bits_of (format_of dst) →
     ((k : ℕ) → k < length run → get_or run k 0 ≡ rop3_of code (p k) (s k) (old k) bits) →
     ((k : ℕ) → k < length run → p k ≡ ink_at d.ink (format_of dst) (point_at (x + k) y)) →
-    ((k : ℕ) → k < length run → s k ≡ source_or_none d.source (size_of dst) (values_of dst) (point_at (x + k) y)) →
+    ((k : ℕ) → k < length run → s k ≡ source_or_zero d.source (size_of dst) (values_of dst) (point_at (x + k) y)) →
     ((k : ℕ) → k < length run → old k ≡ value_at (size_of dst) (values_of dst) (x + k) y) → GivesRun d dst x y run
 row_gives d dst x y run code bits p s old none ec eb row pattern source was =
     gives d dst x y run (λ k h. row k h
@@ -77,8 +77,8 @@ pub fills : (d : Drawing) (format : Format) (pattern value : ℕ) → d.mask ≡
 fills d format pattern value none ink alone is = record {
   each = λ size values p old.
       drawn_value-unmasked d size format values p old none
-      ∙ ap (λ (i : Ink). rop3_of (d.rop.code / 256) (ink_at i format p) (source_or_none d.source size values p) old (bits_of format)) ink
-      ∙ pattern_alone (d.rop.code / 256) pattern (source_or_none d.source size values p) old (bits_of format) alone ∙ sym is;
+      ∙ ap (λ (i : Ink). rop3_of (d.rop.code / 256) (ink_at i format p) (source_or_zero d.source size values p) old (bits_of format)) ink
+      ∙ pattern_alone (d.rop.code / 256) pattern (source_or_zero d.source size values p) old (bits_of format) alone ∙ sym is;
   fits = rw is (rop3_of-lt (d.rop.code / 256) pattern 0 0 (bits_of format));
 }
 
@@ -89,7 +89,7 @@ copy_gives d dst x y s run none code is same fit =
     let bits = bits_of (format_of dst) in
     gives d dst x y run (λ k h.
     sym (drawn_value-unmasked d (size_of dst) (format_of dst) (values_of dst) (point_at (x + k) y) (value_at (size_of dst) (values_of dst) (x + k) y) none
-    ∙ ap (λ (o : Option Source). rop3_of (d.rop.code / 256) (ink_at d.ink (format_of dst) (point_at (x + k) y)) (source_or_none o (size_of dst) (values_of dst) (point_at (x + k) y)) (value_at (size_of dst) (values_of dst) (x + k) y) bits) is
+    ∙ ap (λ (o : Option Source). rop3_of (d.rop.code / 256) (ink_at d.ink (format_of dst) (point_at (x + k) y)) (source_or_zero o (size_of dst) (values_of dst) (point_at (x + k) y)) (value_at (size_of dst) (values_of dst) (x + k) y) bits) is
     ∙ ap (λ (v : ℕ). rop3_of (d.rop.code / 256) (ink_at d.ink (format_of dst) (point_at (x + k) y)) v (value_at (size_of dst) (values_of dst) (x + k) y) bits) (sym (same k h))
     ∙ ap (λ (n : ℕ). rop3_of n (ink_at d.ink (format_of dst) (point_at (x + k) y)) (get_or run k 0) (value_at (size_of dst) (values_of dst) (x + k) y) bits) code
     ∙ copied_value _ (get_or run k 0) _ bits (All-get_or (λ v. v < 2 ^ bits) run k 0 h fit)))

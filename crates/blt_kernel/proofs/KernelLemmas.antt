@@ -21,7 +21,7 @@ use Rattle.brush_obj.specs.Brush.{brush_value}
 use Rattle.brush_obj.specs.Calls.{Operands, new_of_paint}
 use Rattle.brush_obj.specs.declared.face.BrushFace.{BrushFace}
 use Rattle.brush_obj.specs.declared.paint_call.PaintCall.{PaintCall}
-use Rattle.blt_kernel.specs.Drawing.{drawn, ink_at, source_or_none}
+use Rattle.blt_kernel.specs.Drawing.{drawn, ink_at, source_or_zero}
 use Rattle.blt_kernel.specs.Given.{PaintsWith}
 use Rattle.blt_kernel.specs.declared.drawing.Drawing.{Drawing}
 use Rattle.blt_kernel.proofs.DrawLemmas.{drawn_value-unmasked}
@@ -36,7 +36,7 @@ pub paint_gives : (d : Drawing) (call : PaintCall) (o : Operands) (size : Size) 
     ((s : ℕ) → new_of_paint call o p was ≡ Some (rop3_of code (brush_value o.brush o.format o.table call.origin p) s was (bits_of o.format))) →
     drawn d size format values p was ≡ new_of_paint call o p was
 paint_gives d call o size format values table face code p was none halves ink with law =
-    let s = source_or_none d.source size values p in
+    let s = source_or_zero d.source size values p in
     let gives : drawn d size format values p was ≡ Some (rop3_of code (brush_value face format table call.origin p) s was (bits_of format))
     = ap (λ (v : ℕ). Some v) (drawn_value-unmasked d size format values p was none ∙ rw (halves, ink) refl) in
     let same : Some (rop3_of code (brush_value o.brush o.format o.table call.origin p) s was (bits_of o.format)) ≡ Some (rop3_of code (brush_value face format table call.origin p) s was (bits_of format))

@@ -19,7 +19,7 @@ use Rattle.surf_obj.specs.declared.view.LentView.{LentView}
 use Rattle.surf_obj.proofs.StepLemmas.{value_at-redrawn}
 use Rattle.surf_obj.proofs.LentLemmas.{OnlyPixels-size, OnlyPixels-format, length-values_of}
 use Rattle.blt_kernel.specs.Across.{place_across, Reaches, value_across}
-use Rattle.blt_kernel.specs.Drawing.{CanDraw, SourceFits, MaskFits, IsDrawn, drawn, source_or_none, mask_or_none, ink_at, size_from, values_from}
+use Rattle.blt_kernel.specs.Drawing.{CanDraw, SourceFits, MaskFits, IsDrawn, drawn, source_or_zero, mask_or_zero, ink_at, size_from, values_from}
 use Rattle.blt_kernel.specs.Order.{KeepsSource, KeepsUnlent}
 use Rattle.blt_kernel.specs.declared.across.Across.{Across}
 use Rattle.blt_kernel.specs.declared.drawing.Drawing.{Drawing}
@@ -79,7 +79,7 @@ value_kept None across forward size old now done new l t r b x y long is order f
 source_kept : (s : Option Source) (forward : Bool) (size : Size) (format : Format) (old now : List ℕ) (done : Point → Bool) (new : Point → ℕ → Option ℕ) (l t r b x y : ℕ) → length old ≡ size.w * size.h →
     now ≡ redrawn size old done new → KeepsSource s forward → IfSome s (SourceFits size format l t r b) → l ≤ x → x < r → t ≤ y → y < b →
     ((sx sy : ℕ) → NotBefore forward x y sx sy → done (point_at sx sy) ≡ false) →
-    source_or_none s size now (point_at x y) ≡ source_or_none s size old (point_at x y)
+    source_or_zero s size now (point_at x y) ≡ source_or_zero s size old (point_at x y)
 source_kept None forward size format old now done new l t r b x y long is order fits hl hr ht hb apart = refl
 source_kept (Some s) forward size format old now done new l t r b x y long is order fits hl hr ht hb apart =
     ap (translated s.xlate.now) (value_kept s.lent s.across forward size old now done new l t r b x y long is order fits.there hl hr ht hb apart)
@@ -99,7 +99,7 @@ lists_more d forward size size' format format' old now next done both l t r b es
     (ap length first ∙ length-redrawn size old (λ p. is_in p done) (drawn d size format old) ∙ long) first (rw (es, ef) at second)
     (λ x y hx hy. parts x y)
     (λ x y hx hy inside was. let w = in_box l t r b x y inside in
-    ap (λ (s : ℕ). Some (rop4_of d.rop.code (mask_or_none d.mask (point_at x y) == 1) (ink_at d.ink format (point_at x y)) s was (bits_of format)))
+    ap (λ (s : ℕ). Some (rop4_of d.rop.code (mask_or_zero d.mask (point_at x y) == 1) (ink_at d.ink format (point_at x y)) s was (bits_of format)))
     (source_kept d.source forward size format old now (λ p. is_in p done) (drawn d size format old) l t r b x y long first order can.source w.0 w.1 w.2 w.3 (λ sx sy. apart x y sx sy inside)))
 
 -- one part more of a drawing

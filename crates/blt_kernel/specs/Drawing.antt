@@ -27,10 +27,12 @@ abbrev pub size_from : Option (Bor LentView) → Size → Size
 size_from (Some v) size = view_size v.now
 size_from None size = size
 
+-- likewise the format
 abbrev pub format_from : Option (Bor LentView) → Format → Format
 format_from (Some v) format = view_format v.now
 format_from None format = format
 
+-- likewise the values
 abbrev pub values_from : Option (Bor LentView) → List ℕ → List ℕ
 values_from (Some v) values = view_values v.now
 values_from None values = values
@@ -39,15 +41,15 @@ values_from None values = values
 abbrev pub source_at : Source → Size → List ℕ → Point → ℕ
 source_at s size values p = translated s.xlate.now (value_across s.across (size_from s.lent size) (values_from s.lent values) p)
 
--- 0 where no source is needed
-abbrev pub source_or_none : Option Source → Size → List ℕ → Point → ℕ
-source_or_none (Some s) size values p = source_at s size values p
-source_or_none None size values p = 0
+-- the same, or 0 where no source is needed
+abbrev pub source_or_zero : Option Source → Size → List ℕ → Point → ℕ
+source_or_zero (Some s) size values p = source_at s size values p
+source_or_zero None size values p = 0
 
 -- the mask's value that belongs to a point, or 0 where no mask is needed
-abbrev pub mask_or_none : Option Mask → Point → ℕ
-mask_or_none (Some m) p = value_across m.across (view_size m.view.now) (view_values m.view.now) p
-mask_or_none None p = 0
+abbrev pub mask_or_zero : Option Mask → Point → ℕ
+mask_or_zero (Some m) p = value_across m.across (view_size m.view.now) (view_values m.view.now) p
+mask_or_zero None p = 0
 
 -- the value that is painted with at a point
 abbrev pub ink_at : Ink → Format → Point → ℕ
@@ -57,7 +59,7 @@ ink_at (Face face table origin) format p = brush_value face.now format table.now
 -- the new value of a point of a target of this size and format, which has these values
 abbrev pub drawn_value : Drawing → Size → Format → List ℕ → Point → ℕ → ℕ
 drawn_value d size format values p old =
-    rop4_of d.rop.code (mask_or_none d.mask p == 1) (ink_at d.ink format p) (source_or_none d.source size values p) old (bits_of format)
+    rop4_of d.rop.code (mask_or_zero d.mask p == 1) (ink_at d.ink format p) (source_or_zero d.source size values p) old (bits_of format)
 
 -- each point gets a new value
 abbrev pub drawn : Drawing → Size → Format → List ℕ → Change

@@ -13,6 +13,7 @@ abbrev pub IsAhead : Across → Bool → Type 0
 IsAhead across true = (across.rect.top <ℤ across.at.y) ⊎ ((across.rect.top ≡ across.at.y) × (across.rect.left ≤ℤ across.at.x))
 IsAhead across false = (across.at.y <ℤ across.rect.top) ⊎ ((across.at.y ≡ across.rect.top) × (across.at.x ≤ℤ across.rect.left))
 
+-- the same where no view is lent; a view has no point of the target
 abbrev pub KeepsUnlent : Option (Bor LentView) → Across → Bool → Type 0
 KeepsUnlent (Some view) across forward = Unit {0}
 KeepsUnlent None across forward = IsAhead across forward

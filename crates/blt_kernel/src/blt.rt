@@ -25,7 +25,7 @@ use surf_obj::{LentSurf, LentView};
 
 /// Draws the part of a raster operation in a rectangle of the target. The source is `src`, or the target itself where the call
 /// names a source that is held and no view is lent; then each point is read before it is drawn. `xlate` leads from the source to
-/// the target, and `table` is the target's.
+/// the target, and `table` is the target's. A point for which a source or a mask that is needed has no point is untouched.
 pub fn bit_blt_rect(
     dst: &mut LentSurf<'_>,
     rect: Rect,

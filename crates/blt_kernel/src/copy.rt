@@ -22,7 +22,8 @@ use rop_mix::Rop4;
 use surf_obj::{LentSurf, LentView};
 
 /// Draws the part of a copy in a rectangle of the target. The source is `src`, or the target itself where the call names a source
-/// that is held and no view is lent; then each point is read before it is drawn. `xlate` leads from the source to the target.
+/// that is held and no view is lent; then each point is read before it is drawn. `xlate` leads from the source to the target. A
+/// point for which the source has none is untouched.
 pub fn copy_rect(
     dst: &mut LentSurf<'_>,
     rect: Rect,

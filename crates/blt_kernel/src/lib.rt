@@ -1,4 +1,9 @@
 //! Blits, copies and paints of one rectangle, on bits.
+//!
+//! Each of the three kernels draws the part of one call in a rectangle of a target. Its contract is the step `redrawn` over that
+//! rectangle with the new values that the call's record has in `brush_obj`, and `OnlyPixels`. All three make a `Drawing`, cut the
+//! rectangle to the points for which source and mask are there, and draw it row by row, a row in runs of at most 256 pixels. Where
+//! the target itself is the source, rows and runs go in the order in which no point is read after it was drawn. None takes memory.
 #![tactic(auto)]
 
 mod across;

@@ -5,7 +5,7 @@ ghost use Rattle.pix_format.specs.Value.{bits_of};
 ghost use Rattle.rop_mix.specs.Needs.{source_needed};
 ghost use Rattle.surf_obj.specs.Lent.{values_of, size_of, format_of};
 ghost use Rattle.surf_obj.specs.Surface.{point_at};
-ghost use Rattle.blt_kernel.specs.Drawing.{SourceFits, source_at, source_or_none, format_from, size_from, values_from};
+ghost use Rattle.blt_kernel.specs.Drawing.{SourceFits, source_at, source_or_zero, format_from, size_from, values_from};
 ghost use Rattle.blt_kernel.specs.Across.{Reaches, value_across};
 ghost use Rattle.blt_kernel.specs.Given.{source_given};
 ghost use Rattle.blt_kernel.specs.Order.{KeepsUnlent};
@@ -104,7 +104,7 @@ pub fn source_for<'a>(
 /// Reads a source for a run of the target, or nothing but 0 where there is none.
 pub fn read_source(source: &Option<Source<'_>>, dst: &LentSurf<'_>, x: u32, y: u32, out: &mut [u32])
     requires { IfSome source.now (SourceFits (size_of dst.now) (format_of dst.now) x y (x + length out.old) (y + 1)) }
-    ensures { EachIndex out.new (λ k. slice_index out.new k ≡ source_or_none source.now (size_of dst.now) (values_of dst.now) (point_at (x + k) y)) }
+    ensures { EachIndex out.new (λ k. slice_index out.new k ≡ source_or_zero source.now (size_of dst.now) (values_of dst.now) (point_at (x + k) y)) }
 {
     match source {
         Some(source) => source.read_run(dst, x, y, out),
