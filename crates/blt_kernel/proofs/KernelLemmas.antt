@@ -1,12 +1,9 @@
 -- What kernels give, as calls say it.
-use Rattle.std.proofs.Common.{◌≡◌, ℕ, ◌*◌, ◌/◌, ◌<◌, List, refl, sym, ap, ◌∙◌, arith, Option, Some, None, unwrap_or}
+use Rattle.std.proofs.Common.{◌≡◌, ℕ, ◌/◌, List, refl, sym, ap, ◌∙◌, Option, Some, None, unwrap_or}
 use Rattle.geom_base.specs.declared.point.Point.{Point}
 use Rattle.geom_base.specs.declared.rect.Rect.{Rect}
 use Rattle.geom_base.specs.declared.size.Size.{Size}
-use Rattle.geom_base.specs.Points.{is_in, LiesIn}
-use Rattle.std.proofs.lemmas.Int.{ints}
-use Rattle.blt_kernel.specs.Boxes.{box_from, LieIn}
-use Rattle.blt_kernel.specs.declared.edges.Edges.{Edges}
+use Rattle.geom_base.specs.Points.{is_in}
 use Rattle.pix_format.specs.declared.format.Format.{Format}
 use Rattle.pix_format.specs.declared.rgb.Rgb.{Rgb}
 use Rattle.pix_format.specs.Value.{bits_of}
@@ -25,10 +22,6 @@ use Rattle.blt_kernel.specs.Drawing.{drawn, ink_at, source_or_zero}
 use Rattle.blt_kernel.specs.Given.{PaintsWith}
 use Rattle.blt_kernel.specs.declared.drawing.Drawing.{Drawing}
 use Rattle.blt_kernel.proofs.DrawLemmas.{drawn_value-unmasked}
-
--- the code of both halves
-pub both_halves : (code : ℕ) → code < 256 → code * 257 / 256 ≡ code
-both_halves code h = omega arith
 
 -- a paint gives the mix
 pub paint_gives : (d : Drawing) (call : PaintCall) (o : Operands) (size : Size) (format : Format) (values : List ℕ) (table : List Rgb) (face : BrushFace) (code : ℕ) (p : Point) (was : ℕ) → d.mask ≡ None → d.rop.code / 256 ≡ code →
@@ -50,9 +43,3 @@ box_redrawn dst after box rect rule rule' same drew rules =
     rw same at drew
     ∙ redrawn_rule (size_of dst) (values_of dst) (λ p. is_in p rect) rule rule' (length-values_of dst)
     (λ x y hx hy inside. ap (λ (o : Option ℕ). unwrap_or o (value_at (size_of dst) (values_of dst) x y)) (rules (point_at x y) (value_at (size_of dst) (values_of dst) x y)))
-
--- edges of a rectangle that lies in a surface
-pub edges_lie : (e : Edges) (rect : Rect) (size : Size) → box_from e ≡ rect → LiesIn rect size → LieIn size e
-edges_lie e rect size same lies =
-    let inside : LiesIn (box_from e) size = rw same lies in
-    record { across = omega (arith, ints, inside.across); right = omega (arith, ints, inside.right); down = omega (arith, ints, inside.down); bottom = omega (arith, ints, inside.bottom) }

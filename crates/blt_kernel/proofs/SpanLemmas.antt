@@ -23,9 +23,6 @@ there_some from to len corner at f t a b ef et ea eb x = (
   λ h. let w = there_from from to len corner at f t x ef et h in (omega (arith, ints, w.0), omega (arith, ints, w.1)),
 )
 
-pub there_part : (from to len : ℕ) (corner at f t : ℤ) (a b : ℕ) → f ≡ int_max (pos from) (corner -ℤ at) → t ≡ int_min (pos to) ((pos len -ℤ at) +ℤ corner) → pos a ≡ f → pos b ≡ t → (from ≤ a) × (b ≤ to)
-there_part from to len corner at f t a b ef et ea eb = (omega (arith, ints, clamps), omega (arith, ints, clamps))
-
 pub there_ends : (from to len : ℕ) (corner at f t : ℤ) (a b : ℕ) → f ≡ int_max (pos from) (corner -ℤ at) → t ≡ int_min (pos to) ((pos len -ℤ at) +ℤ corner) → pos a ≡ f → pos b ≡ t →
     (pos 0 ≤ℤ place_across corner at (pos a)) × (place_across corner at (pos b) ≤ℤ pos len)
 there_ends from to len corner at f t a b ef et ea eb = (omega (arith, ints, clamps), omega (arith, ints, clamps))
