@@ -15,6 +15,8 @@ use Rattle.surf_obj.specs.Surface.{Surface, value_of_point, whole}
 use Rattle.brush_obj.specs.declared.face.BrushFace.{BrushFace}
 use Rattle.brush_obj.specs.declared.blt_call.BltCall.{BltCall}
 use Rattle.brush_obj.specs.declared.copy_call.CopyCall.{CopyCall}
+use Rattle.brush_obj.specs.declared.draw_call.DrawCall.{DrawCall}
+use Rattle.brush_obj.specs.declared.draw_call.DrawCall.TheVariants.{Blt, Copy, Paint}
 use Rattle.brush_obj.specs.declared.paint_call.PaintCall.{PaintCall}
 use Rattle.brush_obj.specs.Brush.{brush_value}
 
@@ -90,3 +92,18 @@ reach_of_copy c p = is_in p c.rect
 
 abbrev pub reach_of_paint : PaintCall → Area
 reach_of_paint c p = is_in p c.rect
+
+-- the new value of any call
+abbrev pub new_of_call : DrawCall → Operands → Change
+new_of_call (Blt c) o = new_of_blt c o
+new_of_call (Copy c) o = new_of_copy c o
+new_of_call (Paint c) o = new_of_paint c o
+
+-- the rectangle of any call, and the points that it reaches
+abbrev pub rect_of : DrawCall → Rect
+rect_of (Blt c) = c.rect
+rect_of (Copy c) = c.rect
+rect_of (Paint c) = c.rect
+
+abbrev pub reach_of_call : DrawCall → Area
+reach_of_call c p = is_in p (rect_of c)

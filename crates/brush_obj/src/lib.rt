@@ -5,7 +5,7 @@
 //! looks like, and gives these values, at a point or along a row. `BrushObj` is a brush with slots, in which each driver that
 //! asked for it keeps an `RBrush`: the values of the tile on the driver's surfaces, worked out once.
 //!
-//! `BltCall`, `CopyCall` and `PaintCall` are calls on one surface. `new_of_blt`, `new_of_copy` and `new_of_paint` of
+//! `BltCall`, `CopyCall` and `PaintCall` are calls on one surface, `DrawCall` is any of them. `new_of_blt`, `new_of_copy` and `new_of_paint` of
 //! `specs/Calls.antt` say what each of them gives a point, from the values before the call alone. Whoever draws a call meets
 //! them.
 #![tactic(auto)]
@@ -13,6 +13,7 @@
 mod blt_call;
 mod brush;
 mod copy_call;
+mod draw_call;
 mod face;
 mod hatch;
 mod paint_call;
@@ -28,6 +29,7 @@ mod wrapping;
 pub use blt_call::BltCall;
 pub use brush::BrushObj;
 pub use copy_call::CopyCall;
+pub use draw_call::DrawCall;
 pub use face::BrushFace;
 pub use hatch::Hatch;
 pub use paint_call::PaintCall;

@@ -2,11 +2,11 @@ use Rattle.std.proofs.Common.{◌≡◌, ℕ, zero, suc, Bool, false, List, [], 
 use Rattle.desk_io.specs.Sinks.{Puts, puts_nothing}
 use Rattle.surf_obj.specs.Surface.{Surface}
 use Rattle.surf_obj.specs.Changes.{changed, changed_nowhere}
-use Rattle.desk_run.specs.declared.command.Named.{Named}
-use Rattle.desk_run.specs.declared.command.Named.TheVariants.{Screen}
-use Rattle.desk_run.specs.declared.command.PaintOrder.{PaintOrder}
-use Rattle.desk_run.specs.declared.command.ScriptCommand.{ScriptCommand}
-use Rattle.desk_run.specs.declared.command.ScriptCommand.TheVariants.{Paint, Dump, Sum, Nothing}
+use Rattle.script_read.specs.declared.command.Named.{Named}
+use Rattle.script_read.specs.declared.command.Named.TheVariants.{Screen}
+use Rattle.script_read.specs.declared.command.PaintOrder.{PaintOrder}
+use Rattle.script_read.specs.declared.command.ScriptCommand.{ScriptCommand}
+use Rattle.script_read.specs.declared.command.ScriptCommand.TheVariants.{Paint, Dump, Sum, Nothing}
 use Rattle.desk_run.specs.Desk.{State, Shows, painted, reach_of, carried, surface_of, new_of}
 use Rattle.desk_run.specs.Input.{IsKnown, IsThere}
 use Rattle.desk_run.specs.Run.{text_of}

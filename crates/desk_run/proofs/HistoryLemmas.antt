@@ -4,8 +4,8 @@ use Rattle.std.proofs.lemmas.List.{take_more, map-append, take_all, length-map, 
 use Rattle.std.proofs.lemmas.List.Elements.{All-append}
 use Rattle.desk_io.specs.Sinks.{Puts, puts_nothing, puts_on}
 use Rattle.surf_obj.specs.Surface.{Surface}
-use Rattle.desk_run.specs.declared.command.ScriptCommand.{ScriptCommand}
-use Rattle.desk_run.specs.declared.command.ScriptCommand.TheVariants.{Paint}
+use Rattle.script_read.specs.declared.command.ScriptCommand.{ScriptCommand}
+use Rattle.script_read.specs.declared.command.ScriptCommand.TheVariants.{Paint}
 use Rattle.desk_run.specs.declared.run.Ended.TheVariants.{Done, WriteFault}
 use Rattle.desk_run.specs.Desk.{State, Shows, carried}
 use Rattle.desk_run.specs.Texts.{end_text}

@@ -6,9 +6,9 @@ use Rattle.desk_run.specs.declared.input.InputError.{InputError}
 use Rattle.desk_run.specs.declared.input.InputError.TheVariants.{Refused, NoMemory}
 use Rattle.desk_run.specs.declared.status.InputRefusal.{InputRefusal}
 use Rattle.desk_run.specs.declared.status.InputRefusal.TheVariants.{Config}
-use Rattle.desk_run.specs.Words.Asking.{◌>>=◌, ask}
-use Rattle.desk_run.specs.Words.Lines.{word_at}
-use Rattle.desk_run.specs.Words.Spelling.{digits_in}
+use Rattle.script_words.specs.Asking.{◌>>=◌, ask}
+use Rattle.script_words.specs.Lines.{word_at}
+use Rattle.script_words.specs.Spelling.{digits_in}
 
 -- a number from 1 to 4096
 abbrev pub side_in_range : Option ℕ → Result ℕ InputRefusal

@@ -9,11 +9,11 @@ use Rattle.pix_format.specs.Standard.{standard_colours}
 use Rattle.pix_format.specs.Value.{value_of}
 use Rattle.surf_obj.specs.Surface.{Surface}
 use Rattle.surf_obj.specs.Changes.{Area, Change, changed, nowhere, untouched}
-use Rattle.desk_run.specs.declared.command.Named.{Named}
-use Rattle.desk_run.specs.declared.command.Named.TheVariants.{Screen}
-use Rattle.desk_run.specs.declared.command.PaintOrder.{PaintOrder}
-use Rattle.desk_run.specs.declared.command.ScriptCommand.{ScriptCommand}
-use Rattle.desk_run.specs.declared.command.ScriptCommand.TheVariants.{Paint, Dump, Sum, Nothing}
+use Rattle.script_read.specs.declared.command.Named.{Named}
+use Rattle.script_read.specs.declared.command.Named.TheVariants.{Screen}
+use Rattle.script_read.specs.declared.command.PaintOrder.{PaintOrder}
+use Rattle.script_read.specs.declared.command.ScriptCommand.{ScriptCommand}
+use Rattle.script_read.specs.declared.command.ScriptCommand.TheVariants.{Paint, Dump, Sum, Nothing}
 use Rattle.desk_run.specs.declared.config.DeskConfig.{DeskConfig}
 use Rattle.desk_run.specs.Reports.{Told, report_on, part_of}
 

@@ -3,10 +3,10 @@ use Rattle.std.specs.Prelude.{◌≡◌, ℕ, ◌+◌, ◌*◌, ◌≤◌, ◌<�
 use Rattle.std.specs.declared.alloc.Global.{Global}
 use Rattle.desk_io.specs.Sources.{most_bytes}
 use Rattle.geom_base.specs.declared.size.Size.{Size}
-use Rattle.desk_run.specs.declared.command.ScriptCommand.{ScriptCommand}
-use Rattle.desk_run.specs.declared.command.ScriptCommand.TheVariants.{Paint, Dump, Sum, Nothing}
-use Rattle.desk_run.specs.declared.command.Named.{Named}
-use Rattle.desk_run.specs.declared.command.Named.TheVariants.{Screen}
+use Rattle.script_read.specs.declared.command.ScriptCommand.{ScriptCommand}
+use Rattle.script_read.specs.declared.command.ScriptCommand.TheVariants.{Paint, Dump, Sum, Nothing}
+use Rattle.script_read.specs.declared.command.Named.{Named}
+use Rattle.script_read.specs.declared.command.Named.TheVariants.{Screen}
 use Rattle.desk_run.specs.declared.config.DeskConfig.{DeskConfig}
 use Rattle.desk_run.specs.declared.input.Input.{Input}
 use Rattle.desk_run.specs.declared.input.InputError.{InputError}
@@ -14,10 +14,10 @@ use Rattle.desk_run.specs.declared.input.InputError.TheVariants.{Refused, NoMemo
 use Rattle.desk_run.specs.declared.status.InputRefusal.{InputRefusal}
 use Rattle.desk_run.specs.declared.status.InputRefusal.TheVariants.{Size as TooLong, Config, Script}
 use Rattle.desk_run.specs.Config.{config_of}
-use Rattle.desk_run.specs.Words.Asking.{◌>>=◌}
-use Rattle.desk_run.specs.Words.Lines.{lines_of, place_of}
-use Rattle.desk_run.specs.Script.State.{first_state}
-use Rattle.desk_run.specs.Script.Reading.{Refused as Refusal, read_lines, number_of_fault}
+use Rattle.script_words.specs.Asking.{◌>>=◌}
+use Rattle.script_words.specs.Lines.{lines_of, place_of}
+use Rattle.script_read.specs.State.{first_state}
+use Rattle.script_read.specs.Reading.{Refused as Refusal, read_lines, number_of_fault}
 
 -- what an accepted input asks for
 pub record Checked : Type 0 where

@@ -4,8 +4,8 @@ use Rattle.std.specs.Option.{option_map_or}
 use Rattle.geom_base.specs.declared.point.Point.{Point}
 use Rattle.geom_base.specs.declared.rect.Rect.{Rect}
 use Rattle.geom_base.specs.Points.{is_in_some}
-use Rattle.desk_run.specs.declared.command.Named.{Named}
-use Rattle.desk_run.specs.declared.command.Named.TheVariants.{Screen}
+use Rattle.script_read.specs.declared.command.Named.{Named}
+use Rattle.script_read.specs.declared.command.Named.TheVariants.{Screen}
 
 -- why a command was not done whole
 pub data Cause : Type 0 where

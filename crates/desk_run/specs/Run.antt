@@ -3,8 +3,8 @@ use Rattle.std.specs.Prelude.{◌≡◌, ℕ, ◌+◌, true, false, List, [], �
 use Rattle.std.specs.List.{flat_map}
 use Rattle.desk_io.specs.Sinks.{Puts}
 use Rattle.surf_obj.specs.Surface.{Surface}
-use Rattle.desk_run.specs.declared.command.ScriptCommand.{ScriptCommand}
-use Rattle.desk_run.specs.declared.command.ScriptCommand.TheVariants.{Paint, Dump, Sum, Nothing}
+use Rattle.script_read.specs.declared.command.ScriptCommand.{ScriptCommand}
+use Rattle.script_read.specs.declared.command.ScriptCommand.TheVariants.{Paint, Dump, Sum, Nothing}
 use Rattle.desk_run.specs.declared.run.Ended.{Ended}
 use Rattle.desk_run.specs.declared.run.Ended.TheVariants.{Done, WriteFault}
 use Rattle.desk_run.specs.Reports.{Told}

@@ -3,7 +3,7 @@
 ghost use Rattle.std.specs.Prelude.{◌≡◌, IfOk, length, map, take};
 ghost use Rattle.desk_run.specs.Config.{AnswersConfig, config_of, has_fixed_lines, side_behind, side_of};
 ghost use Rattle.desk_run.specs.Input.{IsScreenSize, IsSide};
-ghost use Rattle.desk_run.specs.Words.Lines.{lines_of};
+ghost use Rattle.script_words.specs.Lines.{lines_of};
 
 use crate::input::InputError;
 use crate::status::InputRefusal;

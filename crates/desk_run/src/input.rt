@@ -3,7 +3,7 @@
 ghost use Rattle.std.specs.Prelude.{◌≡◌, ◌≤◌, ◌<◌, ◌+◌, ◌^◌, length, IfOk, All};
 ghost use Rattle.std.specs.Option.{option_copied};
 ghost use Rattle.desk_run.specs.Input.{checked, AnswersInput, AnswersScript, script_of, IsScreenSize, IsKnown};
-ghost use Rattle.desk_run.specs.Words.Lines.{lines_after};
+ghost use Rattle.script_words.specs.Lines.{lines_after};
 ghost use Rattle.desk_run.specs.declared.config.DeskConfig.{DeskConfig};
 ghost use Rattle.desk_run.specs.declared.input.InputError.TheVariants.{Refused, NoMemory};
 ghost use Rattle.desk_io.specs.Sources.{most_bytes};
@@ -46,7 +46,7 @@ impl From<AllocError> for InputError {
 }
 
 /// What the lines behind a found line ask for.
-#[tactic(auto, unfolding(crate::specs::Script::Reading::read_lines))]
+#[tactic(auto, unfolding(crate::specs::Reading::read_lines))]
 fn read_commands(alloc: Global, found: FoundLine<'_>) -> Result<Vec<ScriptCommand>, InputError>
     requires { found.before + 2 + length (lines_after (option_copied found.after)) < 2 ^ 64 }
     ensures value { AnswersScript result (script_of (found.entry.before + 2) (lines_after (option_copied found.entry.after))) }

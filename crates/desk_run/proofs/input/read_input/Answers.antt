@@ -1,5 +1,5 @@
 use Rattle.std.proofs.Common.{arith}
-use Rattle.desk_run.proofs.FindLemmas.{room_behind}
+use Rattle.script_words.proofs.FindLemmas.{room_behind}
 use Rattle.desk_run.proofs.input.read_input.Goals as goal
 
 pub read_commands-requires : goal.read_commands-requires

@@ -1,6 +1,0 @@
-use Rattle.std.proofs.Common.{arith}
-use Rattle.desk_run.proofs.DigitLemmas.{below_power}
-use Rattle.desk_run.proofs.words.spelling.hexadecimal.Goals as goal
-
-pub returns-in-Some-clause-small : goal.returns-in-Some-clause-small
-returns-in-Some-clause-small c = below_power c.args.word.now _ c.args.count (omega arith) c.in-Some.ensures

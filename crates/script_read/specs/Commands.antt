@@ -1,0 +1,230 @@
+-- The commands, one for each word: how many words a line has, and what it means.
+use Rattle.std.specs.Prelude.{ℕ, ◌+◌, ◌-◌, ◌*◌, List, [], ◌∷◌, ◌++◌, length, drop, codes, Option, Some, None, Result, Ok, Err, ◌==◌, nat_lt, nat_le, Bool, ◌&&◌, ◌||◌, if◌then◌else◌}
+use Rattle.std.specs.Str.{bytes_eq}
+use Rattle.geom_base.specs.declared.size.Size.{Size}
+use Rattle.pix_format.specs.declared.rgb.Rgb.{Rgb}
+use Rattle.pix_format.specs.Value.{colours_of}
+use Rattle.rop_mix.specs.Needs.{source_needed, mask_needed}
+use Rattle.brush_obj.specs.declared.draw_call.DrawCall.TheVariants as calls
+use Rattle.script_words.specs.declared.fault.Fault.{Fault}
+use Rattle.script_words.specs.declared.fault.Fault.TheVariants.{UnknownCommand, WordCount, NotOrdered, OperandMissing, MaskNotMono, MaskIsTarget, PastLimit, TooManyCommands, TableMisfit}
+use Rattle.script_words.specs.Asking.{◌>>=◌, ask, each}
+use Rattle.script_words.specs.Lines.{word_at}
+use Rattle.script_words.specs.Places.{colour_at, rect_at, point_at, is_well_ordered}
+use Rattle.script_words.specs.Spelling.{count_in, hex_of}
+use Rattle.script_read.specs.declared.desk_command.BrushUse.TheVariants as uses
+use Rattle.script_read.specs.declared.desk_command.Feed.TheVariants as feeds
+use Rattle.script_read.specs.declared.desk_command.Spot.TheVariants as spots
+use Rattle.script_read.specs.declared.script_command.ScriptCommand.{ScriptCommand}
+use Rattle.script_read.specs.declared.script_command.ScriptCommand.TheVariants as asked
+use Rattle.script_read.specs.declared.verb.Verb.{Verb}
+use Rattle.script_read.specs.declared.verb.Verb.TheVariants as verbs
+use Rattle.script_read.specs.Drawing.{feed_from, feed_for, mask_for, has_operands, is_mono, is_other, number_of_mask, row_rect, zero_point, blt_from, copy_from, paint_from}
+use Rattle.script_read.specs.Fields.{new_name, spot_at, bitmap_at, spot_or_none, bitmap_or_none, brush_at, brush_or_none, format_at, table_at, value_at, face_at, named_at}
+use Rattle.script_read.specs.Names.{NameMap, brush, bitmap, table, with_name, without_name}
+use Rattle.script_read.specs.State.{State}
+
+-- a line's meaning: what it asks, and the state after it
+abbrev pub Meaning : Type 0
+Meaning = Result (ScriptCommand × State) Fault
+
+-- one more name fits
+abbrev pub has_room : State → Bool
+has_room s = nat_lt s.live 10000
+
+-- one more bitmap of a size fits
+abbrev pub has_room_for : State → Size → Bool
+has_room_for s size = has_room s && nat_lt s.bitmaps 4096 && nat_le (size.w * size.h) 4194304 && nat_le (s.pixels + size.w * size.h) 16777216
+
+-- back C
+unfoldable pub read_back : State → List (List ℕ) → Meaning
+read_back s words = do
+  colour ← colour_at (word_at words 1)
+  Ok (asked.Nothing, record s { back = colour })
+
+-- bitmap NAME W H FORMAT [TABLE]
+unfoldable pub read_bitmap : State → List (List ℕ) → Meaning
+read_bitmap s words = do
+  let name = word_at words 1
+  _ ← new_name s.names name
+  w ← count_in 1 4096 (word_at words 2)
+  h ← count_in 1 4096 (word_at words 3)
+  format ← format_at (word_at words 4)
+  colours ← table_at s.names words (length words) format
+  _ ← ask (length colours == colours_of format) TableMisfit
+  let size : Size = record { w = w; h = h }
+  let number = length s.made
+  _ ← ask (has_room_for s size) PastLimit
+  Ok (asked.Create (record { number = number; size = size; format = format; table = colours }), record s {
+    names = with_name name (bitmap (record { number = number; size = size; format = format })) s.names;
+    live = s.live + 1;
+    bitmaps = s.bitmaps + 1;
+    pixels = s.pixels + size.w * size.h;
+    made = s.made ++ name ∷ [];
+  })
+
+-- blt TARGET R SRC SX SY MASK MX MY BRUSH ROP4
+unfoldable pub read_blt : State → List (List ℕ) → Meaning
+read_blt s words = do
+  target ← spot_at s.names (word_at words 1)
+  rect ← rect_at words 2
+  source ← spot_or_none s.names (word_at words 6)
+  src ← point_at words 7
+  mask ← bitmap_or_none s.names (word_at words 9)
+  at ← point_at words 10
+  with ← brush_or_none s.names (word_at words 12)
+  code ← hex_of 4 (word_at words 13)
+  _ ← ask (is_well_ordered rect) NotOrdered
+  _ ← ask (has_operands code source mask with) OperandMissing
+  let bits = mask_for (mask_needed code) mask
+  _ ← ask (is_mono bits) MaskNotMono
+  _ ← ask (is_other target bits) MaskIsTarget
+  Ok (asked.Draw (record { target = target; call = calls.Blt (blt_from rect src at s.origin code); source = feed_for (source_needed code) source; mask = number_of_mask bits; brush = with; back = s.back }), s)
+
+-- brush NAME solid C, brush NAME hatch KIND FORE BACK, and brush NAME pattern BITMAP
+unfoldable pub read_brush : State → List (List ℕ) → Meaning
+read_brush s words = do
+  let name = word_at words 1
+  _ ← new_name s.names name
+  face ← face_at s.names words
+  _ ← ask (face.1 && has_room s && nat_lt s.brushes 1024) PastLimit
+  Ok (asked.Brush (record { number = s.brushes; face = face.0; back = s.back }), record s {
+    names = with_name name (brush s.brushes) s.names;
+    live = s.live + 1;
+    brushes = s.brushes + 1;
+  })
+
+-- brushorg X Y
+unfoldable pub read_brushorg : State → List (List ℕ) → Meaning
+read_brushorg s words = do
+  origin ← point_at words 1
+  Ok (asked.Nothing, record s { origin = origin })
+
+-- copy TARGET R SRC SX SY
+unfoldable pub read_copy : State → List (List ℕ) → Meaning
+read_copy s words = do
+  target ← spot_at s.names (word_at words 1)
+  rect ← rect_at words 2
+  source ← spot_at s.names (word_at words 6)
+  src ← point_at words 7
+  _ ← ask (is_well_ordered rect) NotOrdered
+  Ok (asked.Draw (record { target = target; call = calls.Copy (copy_from rect src); source = feed_from source; mask = None; brush = uses.Nothing; back = s.back }), s)
+
+-- delete NAME
+unfoldable pub read_delete : State → List (List ℕ) → Meaning
+read_delete s words = do
+  let name = word_at words 1
+  b ← bitmap_at s.names name
+  Ok (asked.Delete b.number, record s {
+    names = without_name name s.names;
+    live = s.live - 1;
+    bitmaps = s.bitmaps - 1;
+    pixels = s.pixels - b.size.w * b.size.h;
+  })
+
+-- dump X
+unfoldable pub read_dump : State → List (List ℕ) → Meaning
+read_dump s words = do
+  surface ← named_at s.names (word_at words 1)
+  Ok (asked.Dump surface, s)
+
+-- paint TARGET R BRUSH MIX
+unfoldable pub read_paint : State → List (List ℕ) → Meaning
+read_paint s words = do
+  target ← spot_at s.names (word_at words 1)
+  rect ← rect_at words 2
+  with ← brush_at s.names (word_at words 6)
+  mix ← count_in 1 16 (word_at words 7)
+  _ ← ask (is_well_ordered rect) NotOrdered
+  Ok (asked.Draw (record { target = target; call = calls.Paint (paint_from rect s.origin mix); source = feeds.Nothing; mask = None; brush = with; back = s.back }), s)
+
+-- pixels NAME X Y V ..
+unfoldable pub read_pixels : State → List (List ℕ) → Meaning
+read_pixels s words = do
+  b ← bitmap_at s.names (word_at words 1)
+  at ← point_at words 2
+  values ← each (value_at b.format) (drop 4 words)
+  Ok (asked.Draw (record { target = spots.Bitmap b.number; call = calls.Copy (copy_from (row_rect at (length values)) zero_point); source = feeds.Row values; mask = None; brush = uses.Nothing; back = s.back }), s)
+
+-- sum X
+unfoldable pub read_sum : State → List (List ℕ) → Meaning
+read_sum s words = do
+  surface ← named_at s.names (word_at words 1)
+  Ok (asked.Sum surface, s)
+
+-- table NAME C ..
+unfoldable pub read_table : State → List (List ℕ) → Meaning
+read_table s words = do
+  let name = word_at words 1
+  _ ← new_name s.names name
+  colours ← each colour_at (drop 2 words)
+  _ ← ask (has_room s && nat_lt s.tables 256) PastLimit
+  Ok (asked.Nothing, record s { names = with_name name (table colours) s.names; live = s.live + 1; tables = s.tables + 1 })
+
+-- a brush of a form has so many words; where the word is no form the number isn't asked
+abbrev pub form_fits : List ℕ → ℕ → Bool
+form_fits form count =
+    if bytes_eq form (codes "solid") then count == 4
+    else if bytes_eq form (codes "hatch") then count == 6
+    else if bytes_eq form (codes "pattern") then count == 4
+    else nat_le 3 count
+
+-- a line of a command has so many words
+abbrev pub count_fits : Verb → List (List ℕ) → Bool
+count_fits verbs.Back words = length words == 2
+count_fits verbs.Bitmap words = length words == 5 || length words == 6
+count_fits verbs.Blt words = length words == 14
+count_fits verbs.Brush words = form_fits (word_at words 2) (length words)
+count_fits verbs.Brushorg words = length words == 3
+count_fits verbs.Copy words = length words == 9
+count_fits verbs.Delete words = length words == 2
+count_fits verbs.Dump words = length words == 2
+count_fits verbs.Paint words = length words == 8
+count_fits verbs.Pixels words = nat_le 5 (length words)
+count_fits verbs.Sum words = length words == 2
+count_fits verbs.Table words = length words == 4 || length words == 18 || length words == 258
+
+abbrev pub meaning_of : Verb → State → List (List ℕ) → Meaning
+meaning_of verbs.Back s words = read_back s words
+meaning_of verbs.Bitmap s words = read_bitmap s words
+meaning_of verbs.Blt s words = read_blt s words
+meaning_of verbs.Brush s words = read_brush s words
+meaning_of verbs.Brushorg s words = read_brushorg s words
+meaning_of verbs.Copy s words = read_copy s words
+meaning_of verbs.Delete s words = read_delete s words
+meaning_of verbs.Dump s words = read_dump s words
+meaning_of verbs.Paint s words = read_paint s words
+meaning_of verbs.Pixels s words = read_pixels s words
+meaning_of verbs.Sum s words = read_sum s words
+meaning_of verbs.Table s words = read_table s words
+
+-- the word of each command
+abbrev pub spelling_of : Verb → List ℕ
+spelling_of verbs.Back = codes "back"
+spelling_of verbs.Bitmap = codes "bitmap"
+spelling_of verbs.Blt = codes "blt"
+spelling_of verbs.Brush = codes "brush"
+spelling_of verbs.Brushorg = codes "brushorg"
+spelling_of verbs.Copy = codes "copy"
+spelling_of verbs.Delete = codes "delete"
+spelling_of verbs.Dump = codes "dump"
+spelling_of verbs.Paint = codes "paint"
+spelling_of verbs.Pixels = codes "pixels"
+spelling_of verbs.Sum = codes "sum"
+spelling_of verbs.Table = codes "table"
+
+abbrev pub all_verbs : List Verb
+all_verbs = verbs.Back ∷ verbs.Bitmap ∷ verbs.Blt ∷ verbs.Brush ∷ verbs.Brushorg ∷ verbs.Copy ∷ verbs.Delete ∷ verbs.Dump ∷ verbs.Paint ∷ verbs.Pixels ∷ verbs.Sum ∷ verbs.Table ∷ []
+
+-- the command that a word names
+abbrev pub verb_among : List Verb → List ℕ → Result Verb Fault
+verb_among [] word = Err UnknownCommand
+verb_among (v ∷ verbs) word = if bytes_eq (spelling_of v) word then Ok v else verb_among verbs word
+
+-- one line after so many commands: their number is asked first, then the command, the number of words, and the words
+unfoldable pub read_line : ℕ → State → List (List ℕ) → Meaning
+read_line commands s words = do
+  _ ← ask (nat_lt commands 100000) TooManyCommands
+  verb ← verb_among all_verbs (word_at words 0)
+  _ ← ask (count_fits verb words) WordCount
+  meaning_of verb s words

@@ -1,0 +1,28 @@
+//! A script read into commands, or its first refusal.
+//!
+//! `specs/` has the definition as a reader of lists: one function for each command (`Commands`), what it reads of each word
+//! (`Fields`), the drawing that comes of it (`Drawing`), what is kept from line to line (`State`), and all lines one after the
+//! other (`Reading`). The order of refusals is the order of its lines.
+#![tactic(auto)]
+
+mod desk_command;
+mod entry;
+mod named;
+mod names;
+mod orders;
+mod reader;
+mod reading;
+mod refusal;
+mod script;
+mod script_command;
+mod values;
+mod verb;
+
+pub use desk_command::{BrushUse, DeskCommand, Feed, Spot};
+pub use named::Named;
+pub use orders::{BrushOrder, CreateOrder, FaceOrder};
+pub use reading::read_script;
+pub use refusal::ScriptRefusal;
+pub use script::Script;
+pub use script_command::ScriptCommand;
+pub use values::Values;

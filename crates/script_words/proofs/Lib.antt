@@ -1,0 +1,4 @@
+pub mod AskingLemmas
+pub mod DigitLemmas
+pub mod FindLemmas
+pub mod LineLemmas

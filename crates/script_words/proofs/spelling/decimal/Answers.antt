@@ -1,0 +1,11 @@
+use Rattle.std.proofs.Common.{◌<◌, arith}
+use Rattle.script_words.proofs.DigitLemmas.{below_billion}
+use Rattle.script_words.proofs.spelling.decimal.Goals as goal
+
+pub overflow_cast-result : goal.overflow_cast-result
+overflow_cast-result c =
+    let small : c.in-Some.size < 1000000000 = below_billion c.args.word.now _ c.in-Some.ensures in
+    omega arith
+
+pub returns-in-Some-clause-small : goal.returns-in-Some-clause-small
+returns-in-Some-clause-small c = below_billion c.args.word.now _ c.in-Some.ensures

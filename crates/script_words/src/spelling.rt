@@ -1,0 +1,123 @@
+//! One word read by its kind.
+
+ghost use Rattle.std.specs.Prelude.{◌≡◌, ◌<◌, ◌≤◌, ◌^◌, pos, ◌-ℤ◌, if◌then◌else◌, IfSome, IfOk};
+ghost use Rattle.std.specs.List.{list_all};
+ghost use Rattle.script_words.specs.Spelling.{count_in, hex_of, number_of, number_in, is_name_byte, is_new_name, digits_in};
+
+use crate::fault::Fault;
+
+/// The number that digits spell in a base, or None if there is another byte, no digit, or too many.
+fn digits(word: &[u8], base: u32, most: usize) -> Option<u64>
+    requires low { 2 ≤ base }
+    requires high { base ≤ 16 }
+    requires short { most ≤ 12 }
+    ensures { result ≡ digits_in base most word.now }
+{
+    if word.is_empty() || word.len() > most {
+        return None;
+    }
+    let mut value: u64 = 0;
+    for b in word {
+        match (*b as char).to_digit(base) {
+            Some(d) => value = value * u64::from(base) + u64::from(d),
+            None => return None,
+        }
+    }
+    Some(value)
+}
+
+/// So many hexadecimal digits, in either case.
+pub fn hexadecimal(word: &[u8], count: usize) -> Result<u64, Fault>
+    requires { count ≤ 12 }
+    ensures value { result ≡ hex_of count word.now }
+    ensures small { IfOk result (λ n. n < 16 ^ count) }
+{
+    if word.len() != count {
+        return Err(Fault::Spelling);
+    }
+    match digits(word, 16, 12) {
+        Some(value) => Ok(value),
+        None => Err(Fault::Spelling),
+    }
+}
+
+/// The number with its sign.
+fn signed(negative: bool, size: u32) -> i32
+    requires { size < 1000000000 }
+    ensures { result ≡ (if negative then (pos 0 -ℤ pos size) else pos size) }
+{
+    if negative {
+        -(size as i32)
+    } else {
+        size as i32
+    }
+}
+
+/// One to nine decimal digits.
+pub fn decimal(word: &[u8]) -> Option<u32>
+    ensures value { result ≡ digits_in 10 9 word.now }
+    ensures small { IfSome result (λ n. n < 1000000000) }
+{
+    match digits(word, 10, 9) {
+        Some(size) => Some(size as u32),
+        None => None,
+    }
+}
+
+/// A minus or none, and one to nine decimal digits.
+fn plain_number(word: &[u8]) -> Option<i32>
+    ensures { result ≡ number_of word.now }
+{
+    let (negative, spelled) = match word {
+        [b'-', rest @ ..] => (true, rest),
+        _ => (false, word),
+    };
+    match decimal(spelled) {
+        Some(size) => Some(signed(negative, size)),
+        None => None,
+    }
+}
+
+/// A number in a range: a minus or none, and one to nine decimal digits.
+pub fn number(word: &[u8], low: i32, high: i32) -> Result<i32, Fault>
+    ensures { result ≡ number_in low high word.now }
+{
+    match plain_number(word) {
+        Some(value) => {
+            if low <= value && value <= high {
+                Ok(value)
+            } else {
+                Err(Fault::Range)
+            }
+        }
+        None => Err(Fault::Spelling),
+    }
+}
+
+/// A number in a range that isn't negative.
+pub fn count(word: &[u8], low: u32, high: u32) -> Result<u32, Fault>
+    requires low { low < 2 ^ 31 }
+    requires high { high < 2 ^ 31 }
+    ensures value { result ≡ count_in low high word.now }
+    ensures most { IfOk result (λ n. n ≤ high) }
+{
+    let value = number(word, low as i32, high as i32)?;
+    Ok(value.unsigned_abs())
+}
+
+/// Letters, digits and underscores.
+fn are_name_bytes(word: &[u8]) -> bool
+    ensures { result ≡ list_all is_name_byte word.now }
+{
+    word.iter().all(|b| b.is_ascii_alphanumeric() || *b == b'_')
+}
+
+/// A letter, and then at most 31 letters, digits or underscores.
+pub fn is_name(word: &[u8]) -> bool
+    ensures { result ≡ is_new_name word.now }
+{
+    match word {
+        [] => false,
+        [first, ..] => first.is_ascii_alphabetic() && word.len() <= 32 && are_name_bytes(word),
+    }
+}
