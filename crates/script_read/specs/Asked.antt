@@ -5,7 +5,12 @@ use Rattle.pix_format.specs.Value.{colours_of}
 use Rattle.script_read.specs.declared.desk_command.Spot.{Spot}
 use Rattle.script_read.specs.declared.desk_command.Spot.TheVariants as spots
 use Rattle.script_read.specs.declared.orders.CreateOrder.{CreateOrder}
+use Rattle.brush_obj.specs.declared.draw_call.DrawCall.{DrawCall}
+use Rattle.brush_obj.specs.declared.draw_call.DrawCall.TheVariants.{Copy}
 use Rattle.script_read.specs.declared.desk_command.DeskCommand.{DeskCommand}
+use Rattle.script_read.specs.declared.desk_command.Feed.{Feed}
+use Rattle.script_read.specs.declared.desk_command.Feed.TheVariants.{Row}
+use Rattle.script_read.specs.Drawing.{zero_point}
 use Rattle.script_read.specs.declared.script_command.ScriptCommand.{ScriptCommand}
 use Rattle.script_read.specs.declared.script_command.ScriptCommand.TheVariants.{Create, Delete, Brush, Draw, Dump, Sum, Nothing}
 
@@ -32,10 +37,21 @@ abbrev pub MaskIsOther : Spot → Option ℕ → Type 0
 MaskIsOther (spots.Bitmap n) (Some m) = m ≢ n
 MaskIsOther spot mask = Unit {0}
 
+-- a row of values comes with the copy that begins with its first value
+abbrev pub RowIsCopied : Feed → DrawCall → Type 0
+RowIsCopied (Row values) (Copy c) = c.src ≡ zero_point
+RowIsCopied (Row values) call = ⊥
+RowIsCopied feed call = Unit {0}
+
+-- a drawing can be done: no bitmap is its own mask, and a row of values is copied
+pub record CanDraw (c : DeskCommand) : Type 0 where
+  pub mask : MaskIsOther c.target c.mask
+  pub row : RowIsCopied c.source c.call
+
 -- what each command of an accepted script keeps to
 abbrev pub CanDo : ScriptCommand → Type 0
 CanDo (Create o) = CanCreate o
-CanDo (Draw c) = MaskIsOther c.target c.mask
+CanDo (Draw c) = CanDraw c
 CanDo (Delete n) = Unit {0}
 CanDo (Brush o) = Unit {0}
 CanDo (Dump q) = Unit {0}
