@@ -5,7 +5,8 @@ use Rattle.std.proofs.lemmas.Nat.Bits.{bit_at-lt}
 use Rattle.geom_base.specs.declared.point.Point.{Point}
 use Rattle.pix_format.specs.Value.{bits_of}
 use Rattle.rop_mix.specs.Needs.{source_needed, mask_needed}
-use Rattle.rop_mix.specs.Rop.{rop_bit, rop3_of}
+use Rattle.rop_mix.specs.Bits.{number_with_bits}
+use Rattle.rop_mix.specs.Rop.{rop_bit, rop3_of, rop4_of}
 use Rattle.rop_mix.proofs.BitLemmas.{same_number_with_bits}
 use Rattle.rop_mix.proofs.MixLemmas.{checked_below}
 use Rattle.brush_obj.specs.declared.copy_call.CopyCall.{CopyCall}
@@ -25,6 +26,11 @@ pub copied_value : (p s d bits : ℕ) → s < 2 ^ bits → rop3_of 204 p s d bit
 copied_value p s d bits fits =
     sym (same_number_with_bits bits (λ i. rop_bit 204 (bit_at p i) (bit_at s i) (bit_at d i)) s (λ i. bit_at-lt _ _) fits (λ i h. copy_bit (bit_at p i) (bit_at s i) (bit_at d i) (bit_at-lt _ _) (bit_at-lt _ _) (bit_at-lt _ _)))
 
+-- whatever the pattern and the old value are
+copied_whatever : (p s d bits : ℕ) → rop3_of 204 p s d bits ≡ rop3_of 204 0 s 0 bits
+copied_whatever p s d bits =
+    ap (number_with_bits bits) (λ j i. (sym (copy_bit (bit_at p i) (bit_at s i) (bit_at d i) (bit_at-lt _ _) (bit_at-lt _ _) (bit_at-lt _ _)) ∙ copy_bit (bit_at 0 i) (bit_at s i) (bit_at 0 i) (bit_at-lt _ _) (bit_at-lt _ _) (bit_at-lt _ _)) j)
+
 source_alone_needs : source_needed source_alone ≡ true
 unfolding source_needed
 source_alone_needs = refl
@@ -36,6 +42,10 @@ source_alone_spares = refl
 -- a copy gives the source's value
 pub copy-source : (c : CopyCall) (o : Operands) (p : Point) (d v : ℕ) → source_value o c.rect c.src p ≡ Some v → v < 2 ^ bits_of o.format → new_of_copy c o p d ≡ Some v
 copy-source c o p d v e fits = rw (source_alone_needs, source_alone_spares, e) (ap (λ (n : ℕ). Some n) (copied_value _ v d (bits_of o.format) fits))
+
+-- a copy gives the low bits of the source's value
+pub copy-low : (c : CopyCall) (o : Operands) (p : Point) (d v : ℕ) → source_value o c.rect c.src p ≡ Some v → new_of_copy c o p d ≡ Some (rop4_of source_alone false 0 v 0 (bits_of o.format))
+copy-low c o p d v e = rw (source_alone_needs, source_alone_spares, e) (ap (λ (n : ℕ). Some n) (copied_whatever _ v d (bits_of o.format)))
 
 -- and nothing where there is none
 pub copy-none : (c : CopyCall) (o : Operands) (p : Point) (d : ℕ) → source_value o c.rect c.src p ≡ None → new_of_copy c o p d ≡ None

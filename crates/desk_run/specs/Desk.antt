@@ -1,65 +1,83 @@
 -- The state of a desk, and one command on it.
-use Rattle.std.specs.Prelude.{◌≡◌, ◌*◌, List, replicate, Option, Some, None, option_map, unwrap_or, ◌&&◌, nat_eq, if◌then◌else◌}
+use Rattle.std.specs.Prelude.{ℕ, ◌*◌, ◌==◌, List, [], ◌∷◌, ◌++◌, length, replicate, slice_index_or, slice_set, Option, Some, None, option_map, unwrap_or, ◌&&◌, if◌then◌else◌}
 use Rattle.geom_base.specs.declared.size.Size.{Size}
-use Rattle.geom_base.specs.Points.{is_in}
 use Rattle.pix_format.specs.declared.format.Format.{Format}
 use Rattle.pix_format.specs.declared.format.Format.TheVariants.{B8}
 use Rattle.pix_format.specs.declared.rgb.Rgb.{Rgb}
 use Rattle.pix_format.specs.Standard.{standard_colours}
-use Rattle.pix_format.specs.Value.{value_of}
+use Rattle.pix_format.specs.Value.{black}
+use Rattle.pix_format.specs.Xlate.{Translation}
+use Rattle.surf_obj.specs.Changes.{Change, changed}
 use Rattle.surf_obj.specs.Surface.{Surface}
-use Rattle.surf_obj.specs.Changes.{Area, Change, changed, nowhere, untouched}
-use Rattle.script_read.specs.declared.command.Named.{Named}
-use Rattle.script_read.specs.declared.command.Named.TheVariants.{Screen}
-use Rattle.script_read.specs.declared.command.PaintOrder.{PaintOrder}
-use Rattle.script_read.specs.declared.command.ScriptCommand.{ScriptCommand}
-use Rattle.script_read.specs.declared.command.ScriptCommand.TheVariants.{Paint, Dump, Sum, Nothing}
-use Rattle.desk_run.specs.declared.config.DeskConfig.{DeskConfig}
-use Rattle.desk_run.specs.Reports.{Told, report_on, part_of}
+use Rattle.brush_obj.specs.Calls.{Operands, new_of_call, reach_of_call}
+use Rattle.brush_obj.specs.declared.face.BrushFace.{BrushFace}
+use Rattle.brush_obj.specs.declared.face.BrushFace.TheVariants as faces
+use Rattle.script_read.specs.declared.desk_command.BrushUse.{BrushUse}
+use Rattle.script_read.specs.declared.desk_command.BrushUse.TheVariants as uses
+use Rattle.script_read.specs.declared.desk_command.DeskCommand.{DeskCommand}
+use Rattle.script_read.specs.declared.desk_command.Feed.{Feed}
+use Rattle.script_read.specs.declared.desk_command.Feed.TheVariants as feeds
+use Rattle.script_read.specs.declared.desk_command.Spot.{Spot}
+use Rattle.script_read.specs.declared.desk_command.Spot.TheVariants as spots
+use Rattle.script_read.specs.declared.named.Named.{Named}
+use Rattle.script_read.specs.declared.named.Named.TheVariants.{Screen, Bitmap}
+use Rattle.script_read.specs.declared.orders.BrushOrder.{BrushOrder}
+use Rattle.script_read.specs.declared.orders.FaceOrder.{FaceOrder}
+use Rattle.script_read.specs.declared.orders.FaceOrder.TheVariants.{Solid, Hatch, Pattern}
+use Rattle.script_read.specs.declared.script_command.ScriptCommand.{ScriptCommand}
+use Rattle.script_read.specs.declared.script_command.ScriptCommand.TheVariants.{Create, Delete, Brush, Draw, Dump, Sum, Nothing}
 
--- the surfaces by their names
-abbrev pub State : Type 0
-State = Named → Option Surface
+-- the screen; the bitmaps in the order in which they were made, none where one is gone; and the brushes in theirs
+pub record State : Type 0 where
+  pub screen : Surface
+  pub bitmaps : List (Option Surface)
+  pub brushes : List BrushFace
 
 -- a surface whose values are all 0
 abbrev pub blank : Size → Format → List Rgb → Surface
 blank size format table = record { size = size; format = format; table = table; values = replicate (size.w * size.h) 0 }
 
--- the surface of a name that is known
-abbrev pub surface_of : State → Named → Surface
-surface_of state q = unwrap_or (state q) (blank (record { w = 0; h = 0 }) B8 (standard_colours B8))
+abbrev pub bitmap_at : State → ℕ → Option Surface
+bitmap_at s n = slice_index_or s.bitmaps n None
 
--- before the first command: each screen is blank
-abbrev pub first_state : DeskConfig → State
-first_state config (Screen n) = if nat_eq n 0 then Some (blank config.size B8 (standard_colours B8)) else None
+-- the surface of a name, where it is there
+abbrev pub surface_at : State → Named → Option Surface
+surface_at s (Screen n) = if n == 0 then Some s.screen else None
+surface_at s (Bitmap n) = bitmap_at s n
 
--- a screen's surface is what the state has for it
-abbrev pub Shows : Surface → State → Type 0
-Shows s state = state (Screen 0) ≡ Some s
+-- a row of values as a surface of one row that looks like another
+abbrev pub row_like : Surface → List ℕ → Surface
+row_like t values = record { size = record { w = length values; h = 1 }; format = t.format; table = t.table; values = values }
 
--- the points of the desk that a paint reaches
-abbrev pub reach_of : PaintOrder → Area
-reach_of o p = is_in p o.rect
+-- where a drawing on a surface takes its source from, as it was before the command
+abbrev pub source_of : State → Surface → Feed → Option Surface
+source_of s t feeds.Nothing = None
+source_of s t feeds.Desk = Some s.screen
+source_of s t (feeds.Bitmap n) = bitmap_at s n
+source_of s t (feeds.Row values) = Some (row_like t values)
 
--- a solid paint gives each point the value of its colour on this surface
-abbrev pub painted : Surface → Rgb → Change
-painted s colour p old = Some (value_of s.format s.table colour)
+abbrev pub mask_of : State → Option ℕ → Option Surface
+mask_of s None = None
+mask_of s (Some n) = bitmap_at s n
 
--- the points of a target in a command's reach; the desk's only screen has the desk's own coordinates
-abbrev pub area_of : ScriptCommand → Named → Area
-area_of (Paint o) (Screen n) = reach_of o
-area_of (Dump s) q = nowhere
-area_of (Sum s) q = nowhere
-area_of Nothing q = nowhere
+-- what a drawing's brush looks like; one that isn't there is black
+abbrev pub face_of : State → BrushUse → BrushFace
+face_of s uses.Nothing = faces.Solid black
+face_of s (uses.Colour colour) = faces.Solid colour
+face_of s (uses.Made n) = slice_index_or s.brushes n (faces.Solid black)
 
--- the new value at a point of a target, by the state before the command
-abbrev pub new_of : State → ScriptCommand → Named → Change
-new_of state (Paint o) q = painted (surface_of state q) o.colour
-new_of state (Dump s) q = untouched
-new_of state (Sum s) q = untouched
-new_of state Nothing q = untouched
+-- the translation from one surface to another
+abbrev pub translation : Surface → Surface → Rgb → Translation
+translation s t back = record { from = s.format; from_table = s.table; to = t.format; to_table = t.table; back = back }
 
--- The state after a command with these reports: each point of its area has its new value; of a target with a report only the
--- points that the report names.
-abbrev pub carried : ScriptCommand → List Told → State → State
-carried c told state q = option_map (changed (new_of state c q) (λ p. part_of (report_on told q) p && area_of c q p)) (state q)
+-- what a drawing on a surface draws with
+abbrev pub operands_of : State → DeskCommand → Surface → Operands
+operands_of s c t = record {
+  source = source_of s t c.source;
+  mask = mask_of s c.mask;
+  xlate = translation (unwrap_or (source_of s t c.source) t) t c.back;
+  brush = face_of s c.brush;
+  format = t.format;
+  table = t.table;
+}
+

@@ -1,10 +1,3 @@
-pub mod Status
-pub mod Input
-pub mod Reports
 pub mod Desk
-pub mod Texts
-pub mod Run
-pub mod Answers
-pub mod Config
-pub mod Words
-pub mod Script
+pub mod Parts
+pub mod Drawing

@@ -1,22 +1,28 @@
 //! The surfaces of the desk.
 
-ghost use Rattle.std.specs.Prelude.{◌≡◌, ◌≤◌, ◌<◌, ◌*◌, ◌^◌, ℕ, pos, length, int_le, nat_le, IfOk, take, drop};
-ghost use Rattle.pix_format.specs.Standard.{standard_colours};
-ghost use Rattle.desk_run.specs.Input.{IsScreenSize};
-ghost use Rattle.geom_base.specs.Points.{is_in, box_of};
-ghost use Rattle.surf_obj.specs.Surface.{point_at, redrawn};
+ghost use Rattle.std.specs.Prelude.{◌≡◌, ◌<◌, ◌≤◌, ◌*◌, ℕ, false, length, IfOk, take, drop, unwrap_or};
+ghost use Rattle.std.specs.Option.{option_copied};
+ghost use Rattle.pix_format.specs.Value.{colours_of};
+ghost use Rattle.geom_base.specs.Points.{is_in};
 ghost use Rattle.surf_obj.specs.Changes.{changed};
-ghost use Rattle.surf_obj.specs.Object.{object_size, object_format, object_values, OnlyItsPixels};
-ghost use Rattle.surf_obj.specs.Runs.{solid};
-ghost use Rattle.pix_format.specs.Value.{bits_of};
-ghost use Rattle.desk_run.specs.Desk.{blank, painted, reach_of};
+ghost use Rattle.surf_obj.specs.Layout.{layout_from, row_bytes, HasSides};
+ghost use Rattle.surf_obj.specs.Object.{object_layout, object_bytes, object_size, object_format, object_values};
+ghost use Rattle.surf_obj.specs.View.{view_size, view_format, view_values};
+ghost use Rattle.brush_obj.specs.Calls.{new_of_blt, new_of_paint, Operands};
+ghost use Rattle.blt_kernel.specs.Given.{PaintsWith};
+ghost use Rattle.script_read.specs.Asked.{IsSurfaceSize};
+ghost use Rattle.desk_run.specs.Desk.{blank};
+ghost use Rattle.desk_run.specs.Drawing.{source_from, operands_with, IsViewOf};
 
-use crate::command::PaintOrder;
-use geom_base::{Rect, Size};
-use pix_format::{ColourTable, Format, value_of};
+use crate::drawing::{Form, blt_on, paint_on};
+use crate::part::part_of;
+use crate::source::Source;
+use brush_obj::{BltCall, BrushObj, PaintCall};
+use geom_base::{Size, Target};
+use pix_format::{ColourTable, Format, XlateObj};
 use std::alloc::{AllocError, Global};
 use std::marker::Model;
-use surf_obj::SurfObj;
+use surf_obj::{LentView, SurfObj};
 
 /// A surface of the desk: pixels in memory, and the colours that their values stand for.
 #[derive(Drop)]
@@ -30,81 +36,44 @@ impl Model for Canvas {
     ghost use Rattle.pix_format.specs.Value.{colours_of};
     ghost use Rattle.surf_obj.specs.Object.{object_size, object_format, object_values};
     ghost use Rattle.surf_obj.specs.Surface.{Surface};
-    ghost use Rattle.desk_run.specs.Input.{IsScreenSize};
+    ghost use Rattle.script_read.specs.Asked.{IsSurfaceSize};
 
     ghost Value = { Surface };
 
     ghost view = { λ c. record { size = object_size c.pixels; format = object_format c.pixels; table = c.table; values = object_values c.pixels } };
 
-    ghost invariant = { λ c. (length c.table ≡ colours_of (object_format c.pixels)) × IsScreenSize (object_size c.pixels) };
-}
-
-/// The columns and rows of a rectangle that lie on a surface.
-#[derive(Clone, Copy, Debug, PartialEq, Eq)]
-struct Part {
-    left: u32,
-    top: u32,
-    right: u32,
-    bottom: u32,
-}
-
-/// Where an edge lies among so many columns or rows: those from it on are the ones at or past the edge.
-fn edge(at: &i32, side: u32) -> u32
-    ensures within { result ≤ side }
-    ensures past { (k : ℕ) → k < side → int_le at.now (pos k) ≡ nat_le result k }
-{
-    if *at <= 0 {
-        return 0;
-    }
-    at.unsigned_abs().min(side)
-}
-
-/// What lies of a rectangle on a surface of a size.
-fn part_of(rect: &Rect, size: Size) -> Part
-    ensures right { result.right ≤ size.w }
-    ensures bottom { result.bottom ≤ size.h }
-    ensures points { (x y : ℕ) → x < size.w → y < size.h → is_in (point_at x y) (box_of result.left result.top result.right result.bottom) ≡ is_in (point_at x y) rect.now }
-{
-    Part {
-        left: edge(&rect.left, size.w),
-        top: edge(&rect.top, size.h),
-        right: edge(&rect.right, size.w),
-        bottom: edge(&rect.bottom, size.h),
-    }
-}
-
-/// Gives each point of a part a value, one run for each row.
-fn fill_part(pixels: &mut SurfObj, part: &Part, value: u32)
-    requires right { part.now.right ≤ (object_size pixels.old).w }
-    requires bottom { part.now.bottom ≤ (object_size pixels.old).h }
-    requires value { value < 2 ^ bits_of (object_format pixels.old) }
-    ensures values { object_values pixels.new ≡ redrawn (object_size pixels.old) (object_values pixels.old) (λ p. is_in p (box_of part.now.left part.now.top part.now.right part.now.bottom)) (solid value) }
-    ensures only { OnlyItsPixels pixels.old pixels.new }
-{
-    if part.left >= part.right {
-        return;
-    }
-    let len = part.right - part.left;
-    for y in part.top..part.bottom {
-        pixels.fill_run(part.left, y, len as usize, value);
-    }
+    ghost invariant = { λ c. (length c.table ≡ colours_of (object_format c.pixels)) × IsSurfaceSize (object_size c.pixels) };
 }
 
 impl Canvas {
-    /// A surface of a format with its own table, whose values are all 0.
-    pub fn new(alloc: Global, size: Size, format: Format) -> Result<Canvas, AllocError>
-        requires { IsScreenSize size }
-        ensures { IfOk result (λ c. c ≡ blank size format (standard_colours format)) }
+    /// A surface whose values are all 0.
+    pub fn new(
+        alloc: Global,
+        size: Size,
+        format: Format,
+        table: ColourTable,
+    ) -> Result<Canvas, AllocError>
+        requires size { IsSurfaceSize size }
+        requires table { length table ≡ colours_of format }
+        ensures { IfOk result (λ c. c ≡ blank size format table) }
     {
-        let table = ColourTable::standard(alloc, format)?;
         let pixels = SurfObj::new(alloc, size, format)?;
+        Ok(Canvas { pixels, table })
+    }
+
+    /// Another surface like this one.
+    pub fn copied(&self, alloc: Global) -> Result<Canvas, AllocError>
+        ensures { IfOk result (λ c. c ≡ self.now) }
+    {
+        let pixels = self.pixels.copied(alloc)?;
+        let table = ColourTable::of(alloc, self.table.colours())?;
         Ok(Canvas { pixels, table })
     }
 
     /// The number of columns and rows.
     pub fn size(&self) -> Size
         ensures size { result ≡ self.now.size }
-        ensures fits { IsScreenSize result }
+        ensures fits { IsSurfaceSize result }
         ensures places { length self.now.values ≡ result.w * result.h }
     {
         self.pixels.size()
@@ -117,6 +86,23 @@ impl Canvas {
         self.pixels.format()
     }
 
+    /// The colours that its values stand for.
+    pub fn table(&self) -> &ColourTable
+        ensures table { result.now ≡ self.now.table }
+        ensures fits { length result.now ≡ colours_of self.now.format }
+    {
+        &self.table
+    }
+
+    /// Its pixels, to be read.
+    pub fn view(&self) -> LentView<'_>
+        ensures size { view_size result ≡ self.now.size }
+        ensures format { view_format result ≡ self.now.format }
+        ensures values { view_values result ≡ self.now.values }
+    {
+        self.pixels.view()
+    }
+
     /// Reads the values of a row.
     pub fn read_row(&self, y: u32, values: &mut [u32])
         requires row { y < self.now.size.h }
@@ -126,12 +112,73 @@ impl Canvas {
         self.pixels.read_run(0, y, values);
     }
 
-    /// Paints what lies of a rectangle on the surface.
-    pub fn paint(&mut self, order: &PaintOrder)
-        ensures { self.new ≡ changed (painted self.old order.now.colour) (reach_of order.now) self.old }
+    /// Draws a raster operation by a translation from its source.
+    pub fn blt(
+        &mut self,
+        call: &BltCall,
+        source: Source<'_>,
+        mask: Option<&Canvas>,
+        xlate: &XlateObj,
+        brush: &BrushObj,
+    )
+        requires from { xlate.now.from ≡ (unwrap_or (source_from self.old source) self.old).format }
+        requires to { xlate.now.to ≡ self.old.format }
+        ensures { self.new ≡ changed (new_of_blt call.now (operands_with self.old source.entry mask.entry xlate.now brush.entry)) (λ p. is_in p call.now.rect) self.old }
     {
-        let value = value_of(self.pixels.format(), &self.table, order.colour);
-        let part = part_of(&order.rect, self.pixels.size());
-        fill_part(&mut self.pixels, &part, value);
+        let part = part_of(&call.rect, self.pixels.size());
+        if part.is_empty() {
+            return;
+        }
+        let source_view = source.view();
+        let mask_view = view_of(mask);
+        let call = source.holding(call);
+        let form = form_of(&self.pixels);
+        blt_on(
+            self.pixels.bits_mut(),
+            form,
+            part.rect(),
+            &call,
+            source_view.as_ref(),
+            mask_view.as_ref(),
+            xlate,
+            &self.table,
+            brush,
+        );
+    }
+
+    /// Draws a paint.
+    pub fn paint(&mut self, call: &PaintCall, brush: &BrushObj)
+        ensures { (o : Operands) → PaintsWith self.old.format self.old.table brush.now.face o → self.new ≡ changed (new_of_paint call.now o) (λ p. is_in p call.now.rect) self.old }
+    {
+        let part = part_of(&call.rect, self.pixels.size());
+        if part.is_empty() {
+            return;
+        }
+        let form = form_of(&self.pixels);
+        paint_on(self.pixels.bits_mut(), form, part.rect(), call, &self.table, brush);
+    }
+}
+
+/// The pixels of a surface that may not be there, to be read.
+fn view_of<'a>(canvas: Option<&'a Canvas>) -> Option<LentView<'a>>
+    ensures { IsViewOf (option_copied canvas.entry) result }
+{
+    match canvas {
+        Some(canvas) => Some(canvas.view()),
+        None => None,
+    }
+}
+
+/// How the bits of a surface hold it.
+fn form_of(pixels: &SurfObj) -> Form
+    ensures form { layout_from result.size result.format result.stride false ≡ object_layout pixels.now }
+    ensures row { row_bytes result.format result.size.w ≤ result.stride }
+    ensures rows { result.size.h * result.stride ≤ length (object_bytes pixels.now) }
+    ensures sides { HasSides result.size }
+{
+    Form {
+        size: pixels.size(),
+        format: pixels.format(),
+        stride: pixels.stride(),
     }
 }

@@ -1,23 +1,8 @@
-//! The top call: an input is read, checked and run, and the pixels that it asks for are written.
-//!
-//! `specs/` has the definitions: the checked input (`Input`), one command on a desk (`Desk`), a run and its text
-//! (`Run`, `Texts`), and the answer of the call (`Answers`), which is the contract of `run_desktop`.
+//! Trial.
 #![tactic(auto)]
 
-mod call;
 mod canvas;
-mod command;
-mod config;
-mod dump;
-mod input;
-mod run;
-mod script;
-mod status;
-mod sum;
-#[cfg(test)]
-mod tests;
-mod text;
-mod words;
-
-pub use call::run_desktop;
-pub use status::{InputRefusal, Status};
+mod drawing;
+mod inputs;
+mod part;
+mod source;

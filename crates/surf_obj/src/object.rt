@@ -49,9 +49,24 @@ impl SurfObj {
         })
     }
 
+    /// Another surface with the same pixels.
+    pub fn copied(&self, alloc: Global) -> Result<SurfObj, AllocError>
+        ensures layout { IfOk result (λ s. object_layout s ≡ object_layout self.now) }
+        ensures bytes { IfOk result (λ s. object_bytes s ≡ object_bytes self.now) }
+    {
+        let bits = Vec::from_slice(alloc, self.bits.as_slice())?;
+        Ok(SurfObj {
+            bits,
+            size: self.size,
+            format: self.format,
+            stride: self.stride,
+        })
+    }
+
     /// Its width and height.
     pub fn size(&self) -> Size
-        ensures { result ≡ object_size self.now }
+        ensures size { result ≡ object_size self.now }
+        ensures sides { HasSides result }
     {
         self.size
     }
@@ -63,9 +78,11 @@ impl SurfObj {
         self.format
     }
 
-    /// The bytes from a row to the next one.
+    /// The bytes from a row to the next one: they hold a row, and its bits all rows.
     pub fn stride(&self) -> u32
-        ensures { result ≡ (object_layout self.now).stride }
+        ensures stride { result ≡ (object_layout self.now).stride }
+        ensures row { row_bytes (object_format self.now) (object_size self.now).w ≤ result }
+        ensures rows { (object_size self.now).h * result ≤ length (object_bytes self.now) }
     {
         self.stride
     }

@@ -1,20 +1,22 @@
-use Rattle.std.proofs.Common.{◌≡◌, ◌∙◌, ap}
-use Rattle.pix_format.specs.Value.{value_of}
-use Rattle.surf_obj.specs.Object.{object_size, object_format, object_layout, object_bytes, object_values}
-use Rattle.surf_obj.specs.Changes.{changed}
-use Rattle.surf_obj.specs.Surface.{Surface}
-use Rattle.desk_run.specs.Desk.{painted, reach_of}
-use Rattle.surf_obj.proofs.LayoutLemmas.{length-values_in}
-use Rattle.desk_run.proofs.PaintLemmas.{same_form, painted_part}
+use Rattle.std.proofs.Common.{ap, sym, ◌∙◌}
+use Rattle.brush_obj.specs.Calls.{new_of_paint}
+use Rattle.surf_obj.specs.Object.{object_layout, object_bytes}
+use Rattle.desk_run.proofs.BitsLemmas.{bytes_after, drawn_nowhere, drawn_part, surface_on}
 use Rattle.desk_run.proofs.canvas.Canvas.paint.Goals as goal
 
+pub returns-then-is_empty : goal.returns-then-is_empty
+returns-then-is_empty c o with =
+    let s = c.self.inside.pixels in
+    rw (← c.self.view_is) (drawn_nowhere (object_layout s) c.self.inside.table (object_bytes s) c.part_of-part.result c.args.call.now.rect (new_of_paint c.args.call.now o)
+        (λ x y hx hy. c.part_of-part.ensures.points x y (rw c.size.ensures.size hx) (rw c.size.ensures.size hy)) (c.is_empty.ensures.none c.if-is_empty.true))
+
 pub returns : goal.returns
-returns c =
-    let old = c.self.inside.pixels in
-    let new = c.fill_part.new.pixels in
-    let s : Surface = record { size = object_size old; format = object_format old; table = c.self.inside.table; values = object_values old } in
-    let part = c.part_of-part.result in
-    let value = c.value_of-value.ensures.value ∙ ap (λ f. value_of f c.self.inside.table c.args.order.now.colour) c.format.ensures in
-    let drawn : ◌≡◌ {A = Surface} (record { size = s.size; format = s.format; table = s.table; values = object_values new }) (changed (painted s c.args.order.now.colour) (reach_of c.args.order.now) s) =
-    painted_part s c.args.order.now.rect c.args.order.now.colour part.left part.top part.right part.bottom c.value_of-value.result (object_values new) (length-values_in (object_layout old) (object_bytes old)) value (λ x y hx hy. c.part_of-part.ensures.points x y (rw c.size.ensures hx) (rw c.size.ensures hy)) c.fill_part.ensures.values in
-    rw (← c.self.view_is) (same_form old new c.self.inside.table c.fill_part.ensures.only ∙ drawn)
+returns c o with =
+    let s = c.self.inside.pixels in
+    let f = c.form_of-form.ensures.form in
+    let given = rw (← c.self.view_is) at with in
+    let kept = bytes_after s c.bits_mut.result.now c.paint_on.new.bits c.paint_on.auto.bits c.bits_mut.ensures.bits in
+    rw (← c.self.view_is) (ap (surface_on (object_layout s) c.self.inside.table) kept ∙ drawn_part (object_layout s) c.self.inside.table (object_bytes s) c.part_of-part.result c.args.call.now.rect (new_of_paint c.args.call.now o)
+        _ c.bits_mut.result.now c.paint_on.new.bits c.rect.result f c.bits_mut.ensures.bits c.rect.ensures
+        (λ x y hx hy. c.part_of-part.ensures.points x y (rw c.size.ensures.size hx) (rw c.size.ensures.size hy))
+        (c.paint_on.ensures.values o (record { face = given.face; kept = given.kept ∙ ap (λ l. l.format) (sym f); colours = given.colours })))

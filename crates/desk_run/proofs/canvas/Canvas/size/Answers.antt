@@ -5,4 +5,4 @@ use Rattle.desk_run.proofs.canvas.Canvas.size.Goals as goal
 pub returns-clause-places : goal.returns-clause-places
 returns-clause-places c =
     let s = c.self.inside.pixels in
-    rw (← c.self.view_is, c.size.ensures) (length-values_in (object_layout s) (object_bytes s))
+    rw (← c.self.view_is, c.size.ensures.size) (length-values_in (object_layout s) (object_bytes s))

@@ -1,5 +1,5 @@
 use Rattle.desk_run.proofs.FillLemmas.{part_points}
-use Rattle.desk_run.proofs.canvas.part_of.Goals as goal
+use Rattle.desk_run.proofs.part.part_of.Goals as goal
 
 pub returns-clause-points : goal.returns-clause-points
 returns-clause-points c x y hx hy =
