@@ -15,6 +15,7 @@ use Rattle.script_words.specs.Spelling.{count_in, hex_of}
 use Rattle.script_read.specs.declared.desk_command.BrushUse.TheVariants as uses
 use Rattle.script_read.specs.declared.desk_command.Feed.TheVariants as feeds
 use Rattle.script_read.specs.declared.desk_command.Spot.TheVariants as spots
+use Rattle.script_read.specs.declared.orders.CreateOrder.{CreateOrder}
 use Rattle.script_read.specs.declared.script_command.ScriptCommand.{ScriptCommand}
 use Rattle.script_read.specs.declared.script_command.ScriptCommand.TheVariants as asked
 use Rattle.script_read.specs.declared.verb.Verb.{Verb}
@@ -42,26 +43,34 @@ read_back s words = do
   colour ← colour_at (word_at words 1)
   Ok (asked.Nothing, record s { back = colour })
 
--- bitmap NAME W H FORMAT [TABLE]
-unfoldable pub read_bitmap : State → List (List ℕ) → Meaning
-read_bitmap s words = do
-  let name = word_at words 1
-  _ ← new_name s.names name
+-- a bitmap to be made, by the words NAME W H FORMAT [TABLE]
+unfoldable pub create_at : NameMap → ℕ → List (List ℕ) → Result CreateOrder Fault
+create_at names number words = do
+  _ ← new_name names (word_at words 1)
   w ← count_in 1 4096 (word_at words 2)
   h ← count_in 1 4096 (word_at words 3)
   format ← format_at (word_at words 4)
-  colours ← table_at s.names words (length words) format
+  colours ← table_at names words (length words) format
   _ ← ask (length colours == colours_of format) TableMisfit
-  let size : Size = record { w = w; h = h }
-  let number = length s.made
-  _ ← ask (has_room_for s size) PastLimit
-  Ok (asked.Create (record { number = number; size = size; format = format; table = colours }), record s {
-    names = with_name name (bitmap (record { number = number; size = size; format = format })) s.names;
+  Ok (record { number = number; size = record { w = w; h = h }; format = format; table = colours })
+
+-- one more bitmap under a name, where it fits
+unfoldable pub keep_bitmap : State → List ℕ → CreateOrder → Meaning
+keep_bitmap s name o = do
+  _ ← ask (has_room_for s o.size) PastLimit
+  Ok (asked.Create o, record s {
+    names = with_name name (bitmap (record { number = o.number; size = o.size; format = o.format })) s.names;
     live = s.live + 1;
     bitmaps = s.bitmaps + 1;
-    pixels = s.pixels + size.w * size.h;
+    pixels = s.pixels + o.size.w * o.size.h;
     made = s.made ++ name ∷ [];
   })
+
+-- bitmap NAME W H FORMAT [TABLE]; its number is how many were made before
+unfoldable pub read_bitmap : State → List (List ℕ) → Meaning
+read_bitmap s words = do
+  o ← create_at s.names (length s.made) words
+  keep_bitmap s (word_at words 1) o
 
 -- blt TARGET R SRC SX SY MASK MX MY BRUSH ROP4
 unfoldable pub read_blt : State → List (List ℕ) → Meaning

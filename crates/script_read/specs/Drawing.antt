@@ -58,9 +58,13 @@ number_of_mask mask = option_map (λ (b : Bitmap). b.number) mask
 abbrev pub greatest : ℤ
 greatest = pos 2147483647
 
--- so many points in a row from a point on; no coordinate is past the greatest
+-- the column behind so many from one on, but not past the greatest
+abbrev pub row_end : ℤ → ℕ → ℤ
+row_end x n = if int_le (x +ℤ pos n) greatest then x +ℤ pos n else greatest
+
+-- so many points in a row from a point on
 abbrev pub row_rect : Point → ℕ → Rect
-row_rect at n = record { left = at.x; top = at.y; right = if int_le (at.x +ℤ pos n) greatest then at.x +ℤ pos n else greatest; bottom = at.y +ℤ pos 1 }
+row_rect at n = record { left = at.x; top = at.y; right = row_end at.x n; bottom = at.y +ℤ pos 1 }
 
 abbrev pub zero_point : Point
 zero_point = record { x = pos 0; y = pos 0 }

@@ -6,15 +6,23 @@
 #![tactic(auto)]
 
 mod desk_command;
+mod drawings;
 mod entry;
+mod faces;
+mod fields;
 mod named;
 mod names;
+mod naming;
+mod operands;
 mod orders;
 mod reader;
 mod reading;
 mod refusal;
 mod script;
 mod script_command;
+mod tails;
+#[cfg(test)]
+mod tests;
 mod values;
 mod verb;
 

@@ -2,7 +2,7 @@
 
 ghost use Rattle.std.specs.Prelude.{◌≡◌, OnOk, OnErr, Some, None};
 ghost use Rattle.std.specs.Option.{option_map};
-ghost use Rattle.script_read.specs.Names.{name_of, names_of, with_name};
+ghost use Rattle.script_read.specs.Names.{name_of, names_of, with_name, without_name};
 
 use crate::entry::Entry;
 use std::alloc::{AllocError, Global};
@@ -40,5 +40,11 @@ impl<'a> Names<'a> {
             Ok(_) => Ok(()),
             Err(_) => Err(AllocError),
         }
+    }
+    /// A name that is free from here on.
+    pub fn remove(&mut self, word: &[u8])
+        ensures { names_of self.new ≡ without_name word.now (names_of self.old) }
+    {
+        let _ = self.map.remove(word);
     }
 }

@@ -1,29 +1,190 @@
 //! Lines read one after the other.
 
-ghost use Rattle.std.specs.Prelude.{◌≤◌};
+ghost use Rattle.std.specs.Prelude.{◌≡◌, ◌<◌, ◌≤◌, ◌+◌, IfOk, IfSome, length, map};
 
+use crate::drawings::{blt, copy, paint, pixels};
+use crate::entry::Entry;
+use crate::fields::named;
 use crate::names::Names;
+use crate::naming::{bitmap, brush, delete, table};
+use crate::script_command::ScriptCommand;
+use crate::verb::{Verb, fits_count, verb_of};
 use geom_base::Point;
 use pix_format::Rgb;
+use script_words::{Fault, ReadError, colour, point, word, words};
+use std::alloc::{AllocError, Global};
 
 /// What is kept from line to line.
 #[derive(Drop)]
 pub struct Reader<'a> {
-    names: Names<'a>,
+    pub(crate) names: Names<'a>,
     /// How many names were made and are in use.
-    live: u32,
-    brushes: u32,
-    tables: u32,
+    pub(crate) live: u32,
+    pub(crate) brushes: u32,
+    pub(crate) tables: u32,
     /// How many bitmaps are in use, and how many pixels they have together.
-    bitmaps: u32,
-    pixels: u32,
+    pub(crate) bitmaps: u32,
+    pub(crate) pixels: u32,
     /// The names of all bitmaps that were made.
-    made: Vec<&'a [u8]>,
-    origin: Point,
-    back: Rgb,
+    pub(crate) made: Vec<&'a [u8]>,
+    pub(crate) origin: Point,
+    pub(crate) back: Rgb,
     ghost few_names: { live ≤ 10000 },
     ghost few_brushes: { brushes ≤ 1024 },
     ghost few_tables: { tables ≤ 256 },
     ghost few_bitmaps: { bitmaps ≤ 4096 },
     ghost few_pixels: { pixels ≤ 16777216 },
+}
+
+impl<'a> Reader<'a> {
+    ghost use Rattle.std.specs.Option.{option_to_list};
+    ghost use Rattle.script_read.specs.Asked.{CanDo};
+    ghost use Rattle.script_read.specs.State.{Reads, first_state, state_of};
+    ghost use Rattle.script_read.specs.Reading.{ReadsText, read_text_line};
+    ghost use Rattle.script_read.specs.Commands.{meaning_of, read_back, read_brushorg, read_dump, read_line, read_sum};
+
+    /// What is known before the first line.
+    pub fn new(alloc: Global) -> Result<Reader<'a>, AllocError>
+        ensures { IfOk result (λ r. state_of r ≡ first_state) }
+    {
+        let mut names = Names::new(alloc);
+        names.insert(b"screen".as_slice(), Entry::Screen)?;
+        names.insert(b"none".as_slice(), Entry::NoClip)?;
+        Ok(Reader {
+            names,
+            live: 0,
+            brushes: 0,
+            tables: 0,
+            bitmaps: 0,
+            pixels: 0,
+            made: Vec::new(alloc),
+            origin: Point { x: 0, y: 0 },
+            back: Rgb {
+                r: 255,
+                g: 255,
+                b: 255,
+            },
+        })
+    }
+
+    /// What a line asks, if anything, after so many commands.
+    #[tactic(auto, unfolding(crate::specs::Reading::read_text_line))]
+    pub fn text_line(
+        &mut self,
+        alloc: Global,
+        commands: usize,
+        line: &'a [u8],
+    ) -> Result<Option<ScriptCommand>, ReadError>
+        requires { length self.old.made.items ≤ commands }
+        ensures value { ReadsText result (state_of self.new) (read_text_line commands (state_of self.old) line.now) }
+        ensures few { IfOk result (λ asked. IfSome asked (λ _. commands < 100000)) }
+        ensures can { IfOk result (λ asked. IfSome asked CanDo) }
+        ensures made { IfOk result (λ asked. length self.new.made.items ≤ length self.old.made.items + length (option_to_list asked)) }
+    {
+        if line.first() == Some(&b'#') {
+            return Ok(None);
+        }
+        let words = words(alloc, line)?;
+        if words.is_empty() {
+            return Ok(None);
+        }
+        let command = self.line(alloc, commands, &words)?;
+        Ok(Some(command))
+    }
+
+    /// back C
+    #[tactic(auto, unfolding(crate::specs::Commands::read_back))]
+    fn set_back(&mut self, words: &[&[u8]]) -> Result<ScriptCommand, ReadError>
+        ensures value { Reads result (state_of self.new) (read_back (state_of self.old) (map (λ w. w.now) words.now)) }
+        ensures can { IfOk result CanDo }
+        ensures made { IfOk result (λ _. length self.new.made.items ≤ length self.old.made.items + 1) }
+    {
+        self.back = colour(word(words, 1))?;
+        Ok(ScriptCommand::Nothing)
+    }
+
+    /// brushorg X Y
+    #[tactic(auto, unfolding(crate::specs::Commands::read_brushorg))]
+    fn set_origin(&mut self, words: &[&[u8]]) -> Result<ScriptCommand, ReadError>
+        ensures value { Reads result (state_of self.new) (read_brushorg (state_of self.old) (map (λ w. w.now) words.now)) }
+        ensures can { IfOk result CanDo }
+        ensures made { IfOk result (λ _. length self.new.made.items ≤ length self.old.made.items + 1) }
+    {
+        self.origin = point(words, 1)?;
+        Ok(ScriptCommand::Nothing)
+    }
+
+    /// dump X
+    #[tactic(auto, unfolding(crate::specs::Commands::read_dump))]
+    fn dump(&self, words: &[&[u8]]) -> Result<ScriptCommand, ReadError>
+        ensures value { Reads result (state_of self.now) (read_dump (state_of self.now) (map (λ w. w.now) words.now)) }
+        ensures can { IfOk result CanDo }
+    {
+        let surface = named(&self.names, word(words, 1))?;
+        Ok(ScriptCommand::Dump(surface))
+    }
+
+    /// sum X
+    #[tactic(auto, unfolding(crate::specs::Commands::read_sum))]
+    fn sum(&self, words: &[&[u8]]) -> Result<ScriptCommand, ReadError>
+        ensures value { Reads result (state_of self.now) (read_sum (state_of self.now) (map (λ w. w.now) words.now)) }
+        ensures can { IfOk result CanDo }
+    {
+        let surface = named(&self.names, word(words, 1))?;
+        Ok(ScriptCommand::Sum(surface))
+    }
+
+    /// One line: the number of commands is asked first, then the command, the number of words, and the words.
+    #[tactic(auto, unfolding(crate::specs::Commands::read_line))]
+    fn line(
+        &mut self,
+        alloc: Global,
+        commands: usize,
+        words: &[&'a [u8]],
+    ) -> Result<ScriptCommand, ReadError>
+        requires { length self.old.made.items ≤ commands }
+        ensures value { Reads result (state_of self.new) (read_line commands (state_of self.old) (map (λ w. w.now) words.now)) }
+        ensures few { IfOk result (λ _. commands < 100000) }
+        ensures can { IfOk result CanDo }
+        ensures made { IfOk result (λ _. length self.new.made.items ≤ length self.old.made.items + 1) }
+    {
+        if commands >= 100000 {
+            return Err(ReadError::Fault(Fault::TooManyCommands));
+        }
+        let verb = verb_of(word(words, 0))?;
+        if !fits_count(verb, words) {
+            return Err(ReadError::Fault(Fault::WordCount));
+        }
+        self.meaning(alloc, verb, words)
+    }
+
+    /// The meaning of a line of a command.
+    fn meaning(
+        &mut self,
+        alloc: Global,
+        verb: Verb,
+        words: &[&'a [u8]],
+    ) -> Result<ScriptCommand, ReadError>
+        requires words { 2 ≤ length words.now }
+        requires row { verb ≡ Verb.Pixels → 4 ≤ length words.now }
+        requires few { length self.old.made.items < 100000 }
+        ensures value { Reads result (state_of self.new) (meaning_of verb (state_of self.old) (map (λ w. w.now) words.now)) }
+        ensures can { IfOk result CanDo }
+        ensures made { IfOk result (λ _. length self.new.made.items ≤ length self.old.made.items + 1) }
+    {
+        match verb {
+            Verb::Back => self.set_back(words),
+            Verb::Bitmap => bitmap(self, alloc, words),
+            Verb::Blt => blt(self, words),
+            Verb::Brush => brush(self, words),
+            Verb::Brushorg => self.set_origin(words),
+            Verb::Copy => copy(self, words),
+            Verb::Delete => delete(self, words),
+            Verb::Dump => self.dump(words),
+            Verb::Paint => paint(self, words),
+            Verb::Pixels => pixels(self, alloc, words),
+            Verb::Sum => self.sum(words),
+            Verb::Table => table(self, alloc, words),
+        }
+    }
 }

@@ -1,6 +1,6 @@
 //! Colours, points and rectangles.
 
-ghost use Rattle.std.specs.Prelude.{◌≡◌, ◌<◌, ◌^◌, map};
+ghost use Rattle.std.specs.Prelude.{◌≡◌, ◌<◌, ◌≤ℤ◌, ◌^◌, pos, IfOk, map};
 ghost use Rattle.script_words.specs.Places.{rgb_of, colour_at, coordinate_at, rect_at, point_at, is_well_ordered};
 
 use crate::fault::Fault;
@@ -55,7 +55,8 @@ pub fn rect(words: &[&[u8]], i: usize) -> Result<Rect, Fault>
 /// A point of two words from number i on.
 pub fn point(words: &[&[u8]], i: usize) -> Result<Point, Fault>
     requires { i < 2 ^ 63 }
-    ensures { result ≡ point_at (map (λ w. w.now) words.now) i }
+    ensures value { result ≡ point_at (map (λ w. w.now) words.now) i }
+    ensures below { IfOk result (λ p. p.y ≤ℤ pos 32766) }
 {
     let x = number(word(words, i), -32768, 32766)?;
     let y = number(word(words, i + 1), -32768, 32766)?;

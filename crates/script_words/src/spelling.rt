@@ -1,6 +1,6 @@
 //! One word read by its kind.
 
-ghost use Rattle.std.specs.Prelude.{◌≡◌, ◌<◌, ◌≤◌, ◌^◌, pos, ◌-ℤ◌, if◌then◌else◌, IfSome, IfOk};
+ghost use Rattle.std.specs.Prelude.{◌≡◌, ◌<◌, ◌≤◌, ◌≤ℤ◌, ◌^◌, pos, ◌-ℤ◌, if◌then◌else◌, IfSome, IfOk};
 ghost use Rattle.std.specs.List.{list_all};
 ghost use Rattle.script_words.specs.Spelling.{count_in, hex_of, number_of, number_in, is_name_byte, is_new_name, digits_in};
 
@@ -80,7 +80,8 @@ fn plain_number(word: &[u8]) -> Option<i32>
 
 /// A number in a range: a minus or none, and one to nine decimal digits.
 pub fn number(word: &[u8], low: i32, high: i32) -> Result<i32, Fault>
-    ensures { result ≡ number_in low high word.now }
+    ensures value { result ≡ number_in low high word.now }
+    ensures range { IfOk result (λ z. (low ≤ℤ z) × (z ≤ℤ high)) }
 {
     match plain_number(word) {
         Some(value) => {
@@ -99,6 +100,7 @@ pub fn count(word: &[u8], low: u32, high: u32) -> Result<u32, Fault>
     requires low { low < 2 ^ 31 }
     requires high { high < 2 ^ 31 }
     ensures value { result ≡ count_in low high word.now }
+    ensures least { IfOk result (λ n. low ≤ n) }
     ensures most { IfOk result (λ n. n ≤ high) }
 {
     let value = number(word, low as i32, high as i32)?;

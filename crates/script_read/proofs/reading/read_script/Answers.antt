@@ -1,0 +1,25 @@
+use Rattle.std.proofs.Common.{◌≡◌, length, rules}
+use Rattle.script_read.proofs.ScriptLemmas.{answers_refused, read_more, lines_end, few_more, can_more, made_more}
+use Rattle.script_read.proofs.reading.read_script.Goals as goal
+
+pub returns-in-Err-text_line-clause-value : goal.returns-in-Err-text_line-clause-value
+returns-in-Err-text_line-clause-value c =
+    let count : c.len.result ≡ length c.loop-more.commands.items = search rules in
+    let so_far = rw (c.in-Some.is, c.first_line.ensures.lines) at c.loop-more.invariant.read in
+    answers_refused _ _ _ _ c.in-Err-text_line.error c.refusal.result so_far (rw count at c.in-Err-text_line.ensures.value) c.refusal.ensures
+
+pub loop-more-preserved : goal.loop-more-preserved
+loop-more-preserved c =
+    let count : c.len.result ≡ length c.loop-more.commands.items = search rules in
+    let so_far = rw (c.in-Some.is, c.first_line.ensures.lines) at c.loop-more.invariant.read in
+    record {
+      read = rw c.in-Ok-keep.ensures (read_more _ _ _ _ _ so_far (rw count at c.in-Ok-text_line.ensures.value));
+      few = rw c.in-Ok-keep.ensures (few_more _ _ c.loop-more.invariant.few (rw count at c.in-Ok-text_line.ensures.few));
+      can = rw c.in-Ok-keep.ensures (can_more _ _ c.loop-more.invariant.can c.in-Ok-text_line.ensures.can);
+      made = rw c.in-Ok-keep.ensures (made_more _ _ _ _ c.loop-more.invariant.made c.in-Ok-text_line.ensures.made);
+    }
+
+pub returns-clause-value : goal.returns-clause-value
+returns-clause-value c =
+    let so_far = rw c.in_default.is at c.loop-more.invariant.read in
+    rw c.of.ensures (lines_end _ _ _ so_far.reads)

@@ -1,0 +1,20 @@
+use Rattle.std.proofs.Common.{◌+◌, ◌≤◌, suc, length}
+use Rattle.std.specs.Prelude.{All}
+use Rattle.std.specs.Option.{option_copied, option_map_or}
+use Rattle.script_words.specs.Lines.{lines_of, lines_after}
+use Rattle.script_read.specs.Asked.{CanDo}
+use Rattle.script_read.specs.State.{state_of, first_state}
+use Rattle.script_read.specs.Reading.{read_lines}
+use Rattle.script_read.proofs.ScriptLemmas.{ReadTo}
+use Rattle.script_read.proofs.reading.read_script.Given as goal
+
+abbrev pub invariant-loop-more : goal.invariant-loop-more
+invariant-loop-more l = record {
+  read : ReadTo (read_lines l.first 0 first_state (lines_of l.text)) (l.first + length (lines_of l.text)) l.number (length (lines_after (option_copied l.more))) l.commands.items (read_lines l.number (length l.commands.items) (state_of l.reader) (lines_after (option_copied l.more)));
+  few : length l.commands.items ≤ 100000;
+  can : All CanDo l.commands.items;
+  made : length l.reader.made.items ≤ length l.commands.items;
+}
+
+abbrev pub decreases-loop-more : goal.decreases-loop-more
+decreases-loop-more l = option_map_or (λ t. suc (length t.now)) l.more 0

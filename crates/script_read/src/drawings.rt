@@ -1,0 +1,179 @@
+//! The lines that draw. They change nothing of what is kept from line to line.
+
+ghost use Rattle.std.specs.Prelude.{◌≡◌, ◌≤◌, ◌≤ℤ◌, pos, IfOk, length, map};
+ghost use Rattle.script_read.specs.Asked.{CanDo};
+ghost use Rattle.brush_obj.specs.declared.draw_call.DrawCall.TheVariants as calls;
+ghost use Rattle.script_read.specs.Drawing.{copy_from, row_end, row_rect};
+ghost use Rattle.script_read.specs.State.{Reads, state_of};
+ghost use Rattle.script_read.specs.Commands.{read_blt, read_copy, read_paint, read_pixels};
+
+use crate::desk_command::{BrushUse, DeskCommand, Feed, Spot};
+use crate::fields::{bitmap, bitmap_or_none, brush, brush_or_none, mix, spot, spot_or_none};
+use crate::operands::{
+    feed_for, feed_from, has_operands, is_mono, is_other, mask_for, number_of_mask,
+};
+use crate::reader::Reader;
+use crate::script_command::ScriptCommand;
+use crate::tails::values;
+use crate::values::Values;
+use brush_obj::{BltCall, CopyCall, DrawCall, PaintCall};
+use geom_base::{Point, Rect, Target};
+use rop_mix::{Rop4, needs_mask, needs_source};
+use script_words::{Fault, ReadError, hexadecimal, point, rect, well_ordered, word};
+use std::alloc::Global;
+
+/// blt TARGET R SRC SX SY MASK MX MY BRUSH ROP4
+#[tactic(auto, unfolding(crate::specs::Commands::read_blt))]
+pub fn blt(reader: &Reader<'_>, words: &[&[u8]]) -> Result<ScriptCommand, ReadError>
+    ensures value { Reads result (state_of reader.now) (read_blt (state_of reader.now) (map (λ w. w.now) words.now)) }
+    ensures can { IfOk result CanDo }
+{
+    let target = spot(&reader.names, word(words, 1))?;
+    let rect = rect(words, 2)?;
+    let source = spot_or_none(&reader.names, word(words, 6))?;
+    let src = point(words, 7)?;
+    let mask = bitmap_or_none(&reader.names, word(words, 9))?;
+    let at = point(words, 10)?;
+    let with = brush_or_none(&reader.names, word(words, 12))?;
+    let rop = Rop4::of(hexadecimal(word(words, 13), 4)? as u16);
+    if !well_ordered(&rect) {
+        return Err(ReadError::Fault(Fault::NotOrdered));
+    }
+    if !has_operands(rop, source, mask, with) {
+        return Err(ReadError::Fault(Fault::OperandMissing));
+    }
+    let bits = mask_for(needs_mask(rop), mask);
+    if !is_mono(bits) {
+        return Err(ReadError::Fault(Fault::MaskNotMono));
+    }
+    if !is_other(target, bits) {
+        return Err(ReadError::Fault(Fault::MaskIsTarget));
+    }
+    Ok(ScriptCommand::Draw(DeskCommand {
+        target,
+        call: DrawCall::Blt(BltCall {
+            target: Target::Screen,
+            rect,
+            held: None,
+            src,
+            mask: at,
+            origin: reader.origin,
+            rop,
+        }),
+        source: feed_for(needs_source(rop), source),
+        mask: number_of_mask(bits),
+        brush: with,
+        back: reader.back,
+    }))
+}
+
+/// A copy of a source, whose point for the rectangle's corner is `src`.
+fn copy_from(rect: Rect, src: Point) -> DrawCall
+    ensures { result ≡ calls.Copy (copy_from rect src) }
+{
+    DrawCall::Copy(CopyCall {
+        target: Target::Screen,
+        rect,
+        held: None,
+        src,
+    })
+}
+
+/// copy TARGET R SRC SX SY
+#[tactic(auto, unfolding(crate::specs::Commands::read_copy))]
+pub fn copy(reader: &Reader<'_>, words: &[&[u8]]) -> Result<ScriptCommand, ReadError>
+    ensures value { Reads result (state_of reader.now) (read_copy (state_of reader.now) (map (λ w. w.now) words.now)) }
+    ensures can { IfOk result CanDo }
+{
+    let target = spot(&reader.names, word(words, 1))?;
+    let rect = rect(words, 2)?;
+    let source = spot(&reader.names, word(words, 6))?;
+    let src = point(words, 7)?;
+    if !well_ordered(&rect) {
+        return Err(ReadError::Fault(Fault::NotOrdered));
+    }
+    Ok(ScriptCommand::Draw(DeskCommand {
+        target,
+        call: copy_from(rect, src),
+        source: feed_from(source),
+        mask: None,
+        brush: BrushUse::Nothing,
+        back: reader.back,
+    }))
+}
+
+/// paint TARGET R BRUSH MIX
+#[tactic(auto, unfolding(crate::specs::Commands::read_paint))]
+pub fn paint(reader: &Reader<'_>, words: &[&[u8]]) -> Result<ScriptCommand, ReadError>
+    ensures value { Reads result (state_of reader.now) (read_paint (state_of reader.now) (map (λ w. w.now) words.now)) }
+    ensures can { IfOk result CanDo }
+{
+    let target = spot(&reader.names, word(words, 1))?;
+    let rect = rect(words, 2)?;
+    let with = brush(&reader.names, word(words, 6))?;
+    let mix = mix(word(words, 7))?;
+    if !well_ordered(&rect) {
+        return Err(ReadError::Fault(Fault::NotOrdered));
+    }
+    Ok(ScriptCommand::Draw(DeskCommand {
+        target,
+        call: DrawCall::Paint(PaintCall {
+            target: Target::Screen,
+            rect,
+            origin: reader.origin,
+            mix,
+        }),
+        source: Feed::Nothing,
+        mask: None,
+        brush: with,
+        back: reader.back,
+    }))
+}
+
+/// pixels NAME X Y V ..
+#[tactic(auto, unfolding(crate::specs::Commands::read_pixels))]
+pub fn pixels(
+    reader: &Reader<'_>,
+    alloc: Global,
+    words: &[&[u8]],
+) -> Result<ScriptCommand, ReadError>
+    requires { 4 ≤ length words.now }
+    ensures value { Reads result (state_of reader.now) (read_pixels (state_of reader.now) (map (λ w. w.now) words.now)) }
+    ensures can { IfOk result CanDo }
+{
+    let bitmap = bitmap(&reader.names, word(words, 1))?;
+    let at = point(words, 2)?;
+    let row = values(alloc, bitmap.format, words, 4)?;
+    Ok(ScriptCommand::Draw(DeskCommand {
+        target: Spot::Bitmap(bitmap.number),
+        call: copy_from(row_rect(at, row.len()), Point { x: 0, y: 0 }),
+        source: Feed::Row(Values::of(row)),
+        mask: None,
+        brush: BrushUse::Nothing,
+        back: reader.back,
+    }))
+}
+
+/// The column behind so many from one on, but not past the greatest.
+fn row_end(x: i32, count: usize) -> i32
+    ensures { result ≡ row_end x count }
+{
+    let room = i64::from(i32::MAX) - i64::from(x);
+    if count > room as usize {
+        return i32::MAX;
+    }
+    (i64::from(x) + count as i64) as i32
+}
+
+/// So many points in a row from a point on.
+fn row_rect(at: Point, count: usize) -> Rect
+    requires { at.y ≤ℤ pos 32766 }
+    ensures { result ≡ row_rect at count }
+{
+    Rect {
+        left: at.x,
+        top: at.y,
+        right: row_end(at.x, count),
+        bottom: at.y + 1,
+    }
+}

@@ -1,0 +1,182 @@
+//! The lines that make a name or free one.
+
+ghost use Rattle.std.specs.Prelude.{◌≡◌, ◌<◌, ◌≤◌, ◌+◌, IfOk, IsTrue, length, map};
+ghost use Rattle.pix_format.specs.Value.{colours_of};
+ghost use Rattle.script_words.specs.Asking.{Gives};
+ghost use Rattle.script_read.specs.Asked.{CanDo, HasSides, IsSurfaceSize};
+ghost use Rattle.script_read.specs.Names.{names_of};
+ghost use Rattle.script_read.specs.State.{Reads, state_of};
+ghost use Rattle.script_read.specs.Commands.{has_room, has_room_for, create_at, keep_bitmap, read_bitmap, read_brush, read_delete, read_table};
+
+use crate::entry::{Bitmap, Entry};
+use crate::faces::face;
+use crate::fields;
+use crate::fields::{bitmap as known_bitmap, format, new_name};
+use crate::names::Names;
+use crate::orders::{BrushOrder, CreateOrder};
+use crate::reader::Reader;
+use crate::script_command::ScriptCommand;
+use crate::tails::colours;
+use geom_base::Size;
+use pix_format::ColourTable;
+use script_words::{Fault, ReadError, count, word};
+use std::alloc::Global;
+
+/// One more name fits.
+fn has_room(reader: &Reader<'_>) -> bool
+    ensures { result ≡ has_room (state_of reader.now) }
+{
+    reader.live < 10000
+}
+
+/// table NAME C ..
+#[tactic(auto, unfolding(crate::specs::Commands::read_table))]
+pub fn table<'a>(
+    reader: &mut Reader<'a>,
+    alloc: Global,
+    words: &[&'a [u8]],
+) -> Result<ScriptCommand, ReadError>
+    requires { 2 ≤ length words.now }
+    ensures value { Reads result (state_of reader.new) (read_table (state_of reader.old) (map (λ w. w.now) words.now)) }
+    ensures can { IfOk result CanDo }
+    ensures made { IfOk result (λ _. length reader.new.made.items ≤ length reader.old.made.items + 1) }
+{
+    let name = word(words, 1);
+    new_name(&reader.names, name)?;
+    let colours = colours(alloc, words, 2)?;
+    if !(has_room(reader) && reader.tables < 256) {
+        return Err(ReadError::Fault(Fault::PastLimit));
+    }
+    let table = ColourTable::of(alloc, &colours)?;
+    reader.names.insert(name, Entry::Table(table))?;
+    reader.live += 1;
+    reader.tables += 1;
+    Ok(ScriptCommand::Nothing)
+}
+
+/// brush NAME FORM ..
+#[tactic(auto, unfolding(crate::specs::Commands::read_brush))]
+pub fn brush<'a>(reader: &mut Reader<'a>, words: &[&'a [u8]]) -> Result<ScriptCommand, ReadError>
+    ensures value { Reads result (state_of reader.new) (read_brush (state_of reader.old) (map (λ w. w.now) words.now)) }
+    ensures can { IfOk result CanDo }
+    ensures made { IfOk result (λ _. length reader.new.made.items ≤ length reader.old.made.items + 1) }
+{
+    let name = word(words, 1);
+    new_name(&reader.names, name)?;
+    let (face, fits) = face(&reader.names, words)?;
+    if !(fits && has_room(reader) && reader.brushes < 1024) {
+        return Err(ReadError::Fault(Fault::PastLimit));
+    }
+    let number = reader.brushes;
+    reader.names.insert(name, Entry::Brush(number))?;
+    reader.live += 1;
+    reader.brushes += 1;
+    Ok(ScriptCommand::Brush(BrushOrder {
+        number,
+        face,
+        back: reader.back,
+    }))
+}
+
+/// NAME W H FORMAT [TABLE] of a bitmap line.
+#[tactic(auto, unfolding(crate::specs::Commands::create_at))]
+fn create(
+    names: &Names<'_>,
+    alloc: Global,
+    number: u32,
+    words: &[&[u8]],
+) -> Result<CreateOrder, ReadError>
+    ensures value { Gives (λ o. o) result (create_at (names_of names.now) number (map (λ w. w.now) words.now)) }
+    ensures sides { IfOk result (λ o. HasSides o.size) }
+    ensures table { IfOk result (λ o. length o.table ≡ colours_of o.format) }
+{
+    new_name(names, word(words, 1))?;
+    let w = count(word(words, 2), 1, 4096)?;
+    let h = count(word(words, 3), 1, 4096)?;
+    let format = format(word(words, 4))?;
+    let table = fields::table(alloc, names, words, format)?;
+    if table.colours().len() != format.colours() {
+        return Err(ReadError::Fault(Fault::TableMisfit));
+    }
+    Ok(CreateOrder {
+        number,
+        size: Size { w, h },
+        format,
+        table,
+    })
+}
+
+/// One more bitmap of a size fits.
+fn has_room_for(reader: &Reader<'_>, size: Size) -> bool
+    ensures value { result ≡ has_room_for (state_of reader.now) size }
+    ensures fits { IsTrue result → HasSides size → IsSurfaceSize size }
+{
+    let pixels = u64::from(size.w) * u64::from(size.h);
+    has_room(reader)
+        && reader.bitmaps < 4096
+        && pixels <= 4194304
+        && u64::from(reader.pixels) + pixels <= 16777216
+}
+
+/// One more bitmap under a name, where it fits.
+#[tactic(auto, unfolding(crate::specs::Commands::keep_bitmap))]
+fn keep_bitmap<'a>(
+    reader: &mut Reader<'a>,
+    name: &'a [u8],
+    order: CreateOrder,
+) -> Result<ScriptCommand, ReadError>
+    requires sides { HasSides order.size }
+    requires table { length order.table ≡ colours_of order.format }
+    ensures value { Reads result (state_of reader.new) (keep_bitmap (state_of reader.old) name.now order) }
+    ensures can { IfOk result CanDo }
+    ensures made { IfOk result (λ _. length reader.new.made.items ≤ length reader.old.made.items + 1) }
+{
+    if !has_room_for(reader, order.size) {
+        return Err(ReadError::Fault(Fault::PastLimit));
+    }
+    let kept = Bitmap {
+        number: order.number,
+        size: order.size,
+        format: order.format,
+    };
+    reader.names.insert(name, Entry::Bitmap(kept))?;
+    reader.made.push(name)?;
+    reader.live += 1;
+    reader.bitmaps += 1;
+    reader.pixels += order.size.w * order.size.h;
+    Ok(ScriptCommand::Create(order))
+}
+
+/// bitmap NAME W H FORMAT [TABLE]
+#[tactic(auto, unfolding(crate::specs::Commands::read_bitmap))]
+pub fn bitmap<'a>(
+    reader: &mut Reader<'a>,
+    alloc: Global,
+    words: &[&'a [u8]],
+) -> Result<ScriptCommand, ReadError>
+    requires { length reader.old.made.items < 100000 }
+    ensures value { Reads result (state_of reader.new) (read_bitmap (state_of reader.old) (map (λ w. w.now) words.now)) }
+    ensures can { IfOk result CanDo }
+    ensures made { IfOk result (λ _. length reader.new.made.items ≤ length reader.old.made.items + 1) }
+{
+    let number = reader.made.len() as u32;
+    let order = create(&reader.names, alloc, number, words)?;
+    keep_bitmap(reader, word(words, 1), order)
+}
+
+/// delete NAME
+#[tactic(auto, unfolding(crate::specs::Commands::read_delete))]
+pub fn delete(reader: &mut Reader<'_>, words: &[&[u8]]) -> Result<ScriptCommand, ReadError>
+    ensures value { Reads result (state_of reader.new) (read_delete (state_of reader.old) (map (λ w. w.now) words.now)) }
+    ensures can { IfOk result CanDo }
+    ensures made { IfOk result (λ _. length reader.new.made.items ≤ length reader.old.made.items + 1) }
+{
+    let name = word(words, 1);
+    let gone = known_bitmap(&reader.names, name)?;
+    reader.names.remove(name);
+    reader.live = reader.live.saturating_sub(1);
+    reader.bitmaps = reader.bitmaps.saturating_sub(1);
+    let pixels = gone.size.w.saturating_mul(gone.size.h);
+    reader.pixels = reader.pixels.saturating_sub(pixels);
+    Ok(ScriptCommand::Delete(gone.number))
+}
