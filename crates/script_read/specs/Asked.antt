@@ -10,7 +10,7 @@ use Rattle.brush_obj.specs.declared.draw_call.DrawCall.TheVariants.{Copy}
 use Rattle.script_read.specs.declared.desk_command.DeskCommand.{DeskCommand}
 use Rattle.script_read.specs.declared.desk_command.Feed.{Feed}
 use Rattle.script_read.specs.declared.desk_command.Feed.TheVariants.{Row}
-use Rattle.script_read.specs.Drawing.{zero_point}
+use Rattle.script_read.specs.Drawing.{row_rect, zero_point}
 use Rattle.script_read.specs.declared.script_command.ScriptCommand.{ScriptCommand}
 use Rattle.script_read.specs.declared.script_command.ScriptCommand.TheVariants.{Create, Delete, Brush, Draw, Dump, Sum, Nothing}
 
@@ -44,9 +44,9 @@ abbrev pub MaskIsOther : Spot → Option ℕ → Type 0
 MaskIsOther (spots.Bitmap n) (Some m) = m ≢ n
 MaskIsOther spot mask = Unit {0}
 
--- a row of values comes with the copy that begins with its first value
+-- a row of values comes with the copy of all its values
 abbrev pub RowIsCopied : Feed → DrawCall → Type 0
-RowIsCopied (Row values) (Copy c) = c.src ≡ zero_point
+RowIsCopied (Row values) (Copy c) = (c.src ≡ zero_point) × (c.rect ≡ row_rect (record { x = c.rect.left; y = c.rect.top }) (length values))
 RowIsCopied (Row values) call = ⊥
 RowIsCopied feed call = Unit {0}
 
