@@ -1,3 +1,4 @@
 pub mod Desk
 pub mod Parts
 pub mod Drawing
+pub mod Rows

@@ -6,3 +6,4 @@ mod drawing;
 mod inputs;
 mod part;
 mod source;
+mod row;

@@ -1,6 +1,6 @@
 //! One word of a line, where names count.
 
-ghost use Rattle.std.specs.Prelude.{◌≡◌, ◌<◌, ◌≤◌, ◌^◌, IfOk, length, map, ◌==◌};
+ghost use Rattle.std.specs.Prelude.{◌≡◌, ◌<◌, ◌≤◌, ◌^◌, ◌==◌, IfOk, OnOk, length, map};
 ghost use Rattle.std.specs.Str.{bytes_eq};
 ghost use Rattle.pix_format.specs.Value.{colours_of};
 ghost use Rattle.script_words.specs.Asking.{Gives};
@@ -20,7 +20,8 @@ use std::alloc::Global;
 
 /// A name that is to be made: its spelling is asked first, and then whether it is free.
 pub fn new_name(names: &Names<'_>, word: &[u8]) -> Result<(), Fault>
-    ensures { result ≡ new_name (names_of names.now) word.now }
+    ensures value { result ≡ new_name (names_of names.now) word.now }
+    ensures short { OnOk result (length word.now ≤ 32) }
 {
     if !is_name(word) {
         return Err(Fault::BadName);

@@ -1,6 +1,7 @@
 //! The lines that make a name or free one.
 
-ghost use Rattle.std.specs.Prelude.{◌≡◌, ◌<◌, ◌≤◌, ◌+◌, IfOk, IsTrue, length, map};
+ghost use Rattle.std.specs.Prelude.{◌≡◌, ◌<◌, ◌≤◌, ◌+◌, IfOk, IsTrue, OnOk, length, map};
+ghost use Rattle.script_words.specs.Lines.{word_at};
 ghost use Rattle.pix_format.specs.Value.{colours_of};
 ghost use Rattle.script_words.specs.Asking.{Gives};
 ghost use Rattle.script_read.specs.Asked.{CanDo, HasSides, IsSurfaceSize};
@@ -87,6 +88,7 @@ fn create(
     words: &[&[u8]],
 ) -> Result<CreateOrder, ReadError>
     ensures value { Gives (λ o. o) result (create_at (names_of names.now) number (map (λ w. w.now) words.now)) }
+    ensures name { OnOk result (length (word_at (map (λ w. w.now) words.now) 1) ≤ 32) }
     ensures sides { IfOk result (λ o. HasSides o.size) }
     ensures table { IfOk result (λ o. length o.table ≡ colours_of o.format) }
 {
@@ -125,6 +127,7 @@ fn keep_bitmap<'a>(
     name: &'a [u8],
     order: CreateOrder,
 ) -> Result<ScriptCommand, ReadError>
+    requires name { length name.now ≤ 32 }
     requires sides { HasSides order.size }
     requires table { length order.table ≡ colours_of order.format }
     ensures value { Reads result (state_of reader.new) (keep_bitmap (state_of reader.old) name.now order) }

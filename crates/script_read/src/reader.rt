@@ -1,6 +1,6 @@
 //! Lines read one after the other.
 
-ghost use Rattle.std.specs.Prelude.{◌≡◌, ◌<◌, ◌≤◌, ◌+◌, IfOk, IfSome, length, map};
+ghost use Rattle.std.specs.Prelude.{All, ◌≡◌, ◌<◌, ◌≤◌, ◌+◌, IfOk, IfSome, length, map};
 
 use crate::drawings::{blt, copy, paint, pixels};
 use crate::entry::Entry;
@@ -34,6 +34,7 @@ pub struct Reader<'a> {
     ghost few_tables: { tables ≤ 256 },
     ghost few_bitmaps: { bitmaps ≤ 4096 },
     ghost few_pixels: { pixels ≤ 16777216 },
+    ghost short_names: { All (λ w. length w.now ≤ 32) made.items },
 }
 
 impl<'a> Reader<'a> {
