@@ -9,7 +9,7 @@ use Rattle.geom_base.specs.Points.{is_in}
 use Rattle.pix_format.specs.declared.rgb.Rgb.{Rgb}
 use Rattle.surf_obj.specs.Changes.{Change, changed}
 use Rattle.surf_obj.specs.Layout.{Layout, values_in}
-use Rattle.surf_obj.specs.Object.{object_bytes}
+use Rattle.surf_obj.specs.Object.{object_bytes, object_format, object_size, object_values, OnlyItsPixels}
 use Rattle.surf_obj.specs.Surface.{Surface, point_at, redrawn}
 use Rattle.surf_obj.specs.declared.object.SurfObj.{SurfObj}
 use Rattle.surf_obj.specs.View.{view_size, view_values}
@@ -87,3 +87,10 @@ draws_with s mask xlate brush t size format values held source_view mask_view so
   translation = refl;
   paints = record { face = refl; kept = sym formats; colours = refl };
 }
+
+-- a surface that was drawn on looks as before but for its values
+pub same_form : (old new : SurfObj) (table : List Rgb) → OnlyItsPixels old new →
+    ◌≡◌ {A = Surface} (record { size = object_size new; format = object_format new; table = table; values = object_values new }) (record { size = object_size old; format = object_format old; table = table; values = object_values new })
+same_form old new table only =
+    let form : Layout → Surface = λ l. record { size = l.size; format = l.format; table = table; values = object_values new } in
+    ap form only.layout

@@ -1,3 +1,4 @@
 pub mod FillLemmas
 pub mod RunLemmas
 pub mod BitsLemmas
+pub mod RowCopyLemmas

@@ -8,16 +8,20 @@ ghost use Rattle.surf_obj.specs.Changes.{changed};
 ghost use Rattle.surf_obj.specs.Layout.{layout_from, row_bytes, HasSides};
 ghost use Rattle.surf_obj.specs.Object.{object_layout, object_bytes, object_size, object_format, object_values};
 ghost use Rattle.surf_obj.specs.View.{view_size, view_format, view_values};
-ghost use Rattle.brush_obj.specs.Calls.{new_of_blt, new_of_paint, Operands};
+ghost use Rattle.brush_obj.specs.Calls.{new_of_blt, new_of_copy, new_of_paint, Operands};
 ghost use Rattle.blt_kernel.specs.Given.{PaintsWith};
-ghost use Rattle.script_read.specs.Asked.{IsSurfaceSize};
+ghost use Rattle.script_read.specs.Asked.{IsSurfaceSize, RowIsCopied};
+ghost use Rattle.script_read.specs.declared.desk_command.Feed.TheVariants.{Row};
+ghost use Rattle.brush_obj.specs.declared.draw_call.DrawCall.TheVariants.{Copy};
+ghost use Rattle.desk_run.specs.Rows.{CopiesRow};
 ghost use Rattle.desk_run.specs.Desk.{blank};
 ghost use Rattle.desk_run.specs.Drawing.{source_from, operands_with, IsViewOf};
 
 use crate::drawing::{Form, blt_on, paint_on};
 use crate::part::part_of;
 use crate::source::Source;
-use brush_obj::{BltCall, BrushObj, PaintCall};
+use crate::row::{first_value, put_values};
+use brush_obj::{BltCall, BrushObj, CopyCall, PaintCall};
 use geom_base::{Size, Target};
 use pix_format::{ColourTable, Format, XlateObj};
 use std::alloc::{AllocError, Global};
@@ -144,6 +148,20 @@ impl Canvas {
             &self.table,
             brush,
         );
+    }
+
+    /// Copies a row of values in the surface's own format, all of them to the rectangle of the call.
+    pub fn copy_row(&mut self, call: &CopyCall, values: &[u32])
+        requires { RowIsCopied (Row values.now) (Copy call.now) }
+        ensures { (o : Operands) → CopiesRow self.old values.now o → self.new ≡ changed (new_of_copy call.now o) (λ p. is_in p call.now.rect) self.old }
+    {
+        let part = part_of(&call.rect, self.pixels.size());
+        if part.is_empty() {
+            return;
+        }
+        let from = first_value(&call.rect.left, part.left);
+        let len = (part.right - part.left) as usize;
+        put_values(&mut self.pixels, part.left, part.top, &values[from..from + len]);
     }
 
     /// Draws a paint.

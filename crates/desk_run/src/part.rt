@@ -3,6 +3,7 @@
 ghost use Rattle.std.specs.Prelude.{◌≡◌, ◌≤◌, ◌<◌, ℕ, pos, true, false, int_le, nat_le};
 ghost use Rattle.geom_base.specs.Points.{is_in, box_of, LiesIn};
 ghost use Rattle.surf_obj.specs.Surface.{point_at};
+ghost use Rattle.desk_run.specs.Parts.{HasPoint, LiesWithin};
 
 use geom_base::{Rect, Size};
 
@@ -31,6 +32,7 @@ pub fn part_of(rect: &Rect, size: Size) -> Part
     ensures right { result.right ≤ size.w }
     ensures bottom { result.bottom ≤ size.h }
     ensures points { (x y : ℕ) → x < size.w → y < size.h → is_in (point_at x y) (box_of result.left result.top result.right result.bottom) ≡ is_in (point_at x y) rect.now }
+    ensures within { HasPoint result → LiesWithin result rect.now }
 {
     Part {
         left: edge(&rect.left, size.w),

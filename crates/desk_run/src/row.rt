@@ -1,6 +1,6 @@
 //! A row of values on a surface.
 
-ghost use Rattle.std.specs.Prelude.{◌≡◌, ◌≤◌, ◌<◌, ◌+◌, length};
+ghost use Rattle.std.specs.Prelude.{◌≡◌, ◌≤ℤ◌, ◌+ℤ◌, pos, ◌≤◌, ◌<◌, ◌+◌, length};
 ghost use Rattle.geom_base.specs.Points.{is_in, box_of};
 ghost use Rattle.pix_format.specs.Value.{bits_of};
 ghost use Rattle.surf_obj.specs.Changes.{Change};
@@ -10,6 +10,14 @@ ghost use Rattle.desk_run.specs.Rows.{GivesLow};
 
 use rop_mix::{Rop4, rop4_bits};
 use surf_obj::SurfObj;
+
+/// Which value of a row from a column on belongs to another column.
+pub fn first_value(row: &i32, column: u32) -> usize
+    requires { row.now ≤ℤ pos column }
+    ensures { (row.now +ℤ pos result) ≡ pos column }
+{
+    (i64::from(column) - i64::from(*row)) as usize
+}
 
 /// Puts the low bits of values into a row, from a column on.
 pub fn put_values(pixels: &mut SurfObj, x: u32, y: u32, values: &[u32])
