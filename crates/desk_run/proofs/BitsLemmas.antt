@@ -1,7 +1,7 @@
-use Rattle.std.proofs.Common.{◌≡◌, ℕ, ◌*◌, ◌<◌, true, false, List, length, Option, Some, None, Bor, refl, sym, ap, subst, ◌∙◌}
+use Rattle.std.proofs.Common.{◌≡◌, ℕ, ◌*◌, ◌+◌, ◌/◌, ◌%◌, ◌++◌, ◌∷◌, [], ◌<◌, true, false, List, get_or, take, length, Option, Some, None, Bor, refl, sym, ap, subst, ◌∙◌}
 use Rattle.std.specs.Option.{option_copied}
 use Rattle.std.specs.Vec.{with_items}
-use Rattle.std.proofs.lemmas.List.{with_items_is}
+use Rattle.std.proofs.lemmas.List.{take_more, with_items_is}
 use Rattle.geom_base.specs.declared.rect.Rect.{Rect}
 use Rattle.geom_base.specs.declared.size.Size.{Size}
 use Rattle.geom_base.specs.declared.target.Target.{Target}
@@ -25,6 +25,7 @@ use Rattle.pix_format.specs.Xlate.{Translation}
 use Rattle.brush_obj.specs.Slots.{Brush}
 use Rattle.desk_run.specs.Drawing.{DrawsWith, IsSourceOf, IsViewOf, held_for, lent_from, operands_with, source_from}
 use Rattle.desk_run.specs.Parts.{box_from}
+use Rattle.std.proofs.lemmas.Nat.{div-add-mod'}
 
 -- the surface that bytes hold
 abbrev pub surface_on : Layout → List Rgb → List ℕ → Surface
@@ -94,3 +95,8 @@ pub same_form : (old new : SurfObj) (table : List Rgb) → OnlyItsPixels old new
 same_form old new table only =
     let form : Layout → Surface = λ l. record { size = l.size; format = l.format; table = table; values = object_values new } in
     ap form only.layout
+
+-- the value at a place in rows of a width
+pub next_value : (w : ℕ) (values taken : List ℕ) (i v : ℕ) → i < length values → taken ≡ take i values → v ≡ get_or values (i / w * w + i % w) 0 → taken ++ v ∷ [] ≡ take (i + 1) values
+next_value w values taken i v lt so is =
+    ap (λ (xs : List ℕ). xs ++ v ∷ []) so ∙ ap (λ (n : ℕ). take i values ++ n ∷ []) (is ∙ ap (λ k. get_or values k 0) (div-add-mod' i w)) ∙ sym (take_more values i 0 lt)

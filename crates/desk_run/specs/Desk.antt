@@ -26,6 +26,8 @@ use Rattle.script_read.specs.declared.orders.FaceOrder.{FaceOrder}
 use Rattle.script_read.specs.declared.orders.FaceOrder.TheVariants.{Solid, Hatch, Pattern}
 use Rattle.script_read.specs.declared.script_command.ScriptCommand.{ScriptCommand}
 use Rattle.script_read.specs.declared.script_command.ScriptCommand.TheVariants.{Create, Delete, Brush, Draw, Dump, Sum, Nothing}
+use Rattle.desk_run.specs.declared.config.DeskConfig.{DeskConfig}
+use Rattle.desk_run.specs.Reports.{Told, report_on, part_of}
 
 -- the screen; the bitmaps in the order in which they were made, none where one is gone; and the brushes in theirs
 pub record State : Type 0 where
@@ -36,6 +38,10 @@ pub record State : Type 0 where
 -- a surface whose values are all 0
 abbrev pub blank : Size → Format → List Rgb → Surface
 blank size format table = record { size = size; format = format; table = table; values = replicate (size.w * size.h) 0 }
+
+-- before the first command
+abbrev pub first_state : DeskConfig → State
+first_state config = record { screen = blank config.size B8 (standard_colours B8); bitmaps = []; brushes = [] }
 
 abbrev pub bitmap_at : State → ℕ → Option Surface
 bitmap_at s n = slice_index_or s.bitmaps n None
@@ -81,3 +87,37 @@ operands_of s c t = record {
   table = t.table;
 }
 
+-- the new value at a point of a surface that is drawn on, by the state before the command
+abbrev pub new_of : State → DeskCommand → Surface → Change
+new_of s c t = new_of_call c.call (operands_of s c t)
+
+-- a surface after a drawing with this report on it: each point that the call reaches has its new value, all at once; with a report only
+-- the points that it names
+abbrev pub drawn : State → DeskCommand → Option Told → Surface → Surface
+drawn s c report t = changed (new_of s c t) (λ p. part_of report p && reach_of_call c.call p) t
+
+-- what the output names of what is drawn on
+abbrev pub name_of : Spot → Named
+name_of spots.Desk = Screen 0
+name_of (spots.Bitmap n) = Bitmap n
+
+-- the desk after a drawing; the desk's only screen has the desk's own coordinates
+abbrev pub drawn_on : State → DeskCommand → List Told → Spot → State
+drawn_on s c told spots.Desk = record s { screen = drawn s c (report_on told (Screen 0)) s.screen }
+drawn_on s c told (spots.Bitmap n) = record s { bitmaps = slice_set s.bitmaps n (option_map (drawn s c (report_on told (Bitmap n))) (bitmap_at s n)) }
+
+-- what a brush is made of, on the desk as it is then; a pattern that isn't there is black
+abbrev pub face_made : State → Rgb → FaceOrder → BrushFace
+face_made s back (Solid colour) = faces.Solid colour
+face_made s back (Hatch kind fore ground) = faces.Hatch kind fore ground
+face_made s back (Pattern n) = unwrap_or (option_map (λ (t : Surface). faces.Pattern (record { picture = t; back = back })) (bitmap_at s n)) (faces.Solid black)
+
+-- the desk after a command with these reports
+abbrev pub carried : ScriptCommand → List Told → State → State
+carried (Create o) told s = record s { bitmaps = s.bitmaps ++ Some (blank o.size o.format o.table) ∷ [] }
+carried (Delete n) told s = record s { bitmaps = slice_set s.bitmaps n None }
+carried (Brush o) told s = record s { brushes = s.brushes ++ face_made s o.back o.face ∷ [] }
+carried (Draw c) told s = drawn_on s c told c.target
+carried (Dump q) told s = s
+carried (Sum q) told s = s
+carried Nothing told s = s

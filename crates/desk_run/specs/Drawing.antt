@@ -1,5 +1,5 @@
 -- What a surface of the desk is drawn on with.
-use Rattle.std.specs.Prelude.{◌≡◌, ℕ, List, Option, Some, None, unwrap_or, IsTrue}
+use Rattle.std.specs.Prelude.{◌≡◌, ℕ, Bool, true, false, List, Option, Some, None, unwrap_or, IsTrue}
 use Rattle.std.specs.Option.{option_copied}
 use Rattle.std.specs.Borrow.{Bor}
 use Rattle.geom_base.specs.declared.point.Point.{Point}
@@ -98,3 +98,7 @@ held_for source = None
 -- the call, with that source
 abbrev pub holding : Source → BltCall → BltCall
 holding source c = record { target = c.target; rect = c.rect; held = held_for source; src = c.src; mask = c.mask; origin = c.origin; rop = c.rop }
+
+abbrev pub is_own : Source → Bool
+is_own Own = true
+is_own source = false

@@ -1,8 +1,9 @@
 //! The surfaces of the desk.
 
-ghost use Rattle.std.specs.Prelude.{◌≡◌, ◌<◌, ◌≤◌, ◌*◌, ℕ, false, length, IfOk, take, drop, unwrap_or};
+ghost use Rattle.std.specs.Prelude.{◌≡◌, ◌<◌, ◌≤◌, ◌*◌, ◌^◌, ℕ, All, false, length, IfOk, take, drop, unwrap_or};
 ghost use Rattle.std.specs.Option.{option_copied};
-ghost use Rattle.pix_format.specs.Value.{colours_of};
+ghost use Rattle.pix_format.specs.Value.{bits_of, colours_of};
+ghost use Rattle.brush_obj.specs.declared.face.BrushFace.TheVariants as faces;
 ghost use Rattle.geom_base.specs.Points.{is_in};
 ghost use Rattle.surf_obj.specs.Changes.{changed};
 ghost use Rattle.surf_obj.specs.Layout.{layout_from, row_bytes, HasSides};
@@ -23,7 +24,7 @@ use crate::source::Source;
 use crate::row::{first_value, put_values};
 use brush_obj::{BltCall, BrushObj, CopyCall, PaintCall};
 use geom_base::{Size, Target};
-use pix_format::{ColourTable, Format, XlateObj};
+use pix_format::{ColourTable, Format, Rgb, XlateObj};
 use std::alloc::{AllocError, Global};
 use std::marker::Model;
 use surf_obj::{LentView, SurfObj};
@@ -114,6 +115,36 @@ impl Canvas {
         ensures { values.new ≡ take self.now.size.w (drop (y * self.now.size.w) self.now.values) }
     {
         self.pixels.read_run(0, y, values);
+    }
+
+    /// Its values, row by row.
+    fn values(&self, alloc: Global) -> Result<Vec<u32>, AllocError>
+        ensures values { IfOk result (λ v. v.items ≡ self.now.values) }
+        ensures fits { IfOk result (λ v. All (λ x. x < 2 ^ bits_of self.now.format) v.items) }
+    {
+        let Size { w, h } = self.pixels.size();
+        let mut values = Vec::new(alloc);
+        for i in 0..w * h {
+            values.push(self.pixels.pixel(i % w, i / w))?;
+        }
+        Ok(values)
+    }
+
+    /// A brush that is a copy of it, with the background colour in force. No side is over 64; a larger one answers as for want of
+    /// memory.
+    pub fn pattern(&self, alloc: Global, back: Rgb) -> Result<BrushObj, AllocError>
+        ensures { IfOk result (λ b. b.face ≡ faces.Pattern (record { picture = self.now; back = back })) }
+    {
+        let size = self.pixels.size();
+        if size.w > 64 || size.h > 64 {
+            return Err(AllocError);
+        }
+        let values = self.values(alloc)?;
+        let format = self.pixels.format();
+        match BrushObj::pattern(alloc, size, format, &self.table, &values, back) {
+            Ok(brush) => Ok(brush),
+            Err(_) => Err(AllocError),
+        }
     }
 
     /// Draws a raster operation by a translation from its source.

@@ -17,7 +17,7 @@ pub enum Source<'a> {
 }
 
 impl<'a> Source<'a> {
-    ghost use Rattle.desk_run.specs.Drawing.{IsViewOf, held_for, holding, lent_from};
+    ghost use Rattle.desk_run.specs.Drawing.{IsViewOf, held_for, is_own, holding, lent_from};
 
     /// The pixels of another surface, to be read.
     pub fn view(self) -> Option<LentView<'a>>
@@ -42,6 +42,13 @@ impl<'a> Source<'a> {
             origin: call.origin,
             rop: call.rop,
         }
+    }
+
+    /// It is the surface that is drawn on.
+    pub fn is_own(self) -> bool
+        ensures { result ≡ is_own self.entry }
+    {
+        matches!(self, Source::Own)
     }
 
     fn held(self) -> Option<Target>

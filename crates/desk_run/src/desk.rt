@@ -1,0 +1,227 @@
+//! The desk.
+
+ghost use Rattle.std.specs.Prelude.{◌≡◌, IfOk, OnOk, OnErr, false};
+ghost use Rattle.std.specs.Option.{option_copied};
+ghost use Rattle.surf_obj.specs.Changes.{changed};
+ghost use Rattle.script_read.specs.Asked.{CanCreate, CanDraw, IsSurfaceSize};
+ghost use Rattle.script_read.specs.declared.script_command.ScriptCommand.TheVariants as asked;
+ghost use Rattle.desk_run.specs.Beside.{IsBeside};
+ghost use Rattle.desk_run.specs.Desk.{State, carried, drawn, face_made, first_state, surface_at};
+ghost use Rattle.desk_run.specs.Reports.{Told};
+ghost use Rattle.desk_run.specs.Meeting.{Meets};
+ghost use Rattle.desk_run.specs.Drawing.{Reaches};
+ghost use Rattle.std.specs.Prelude.{[], None};
+ghost use Rattle.script_read.specs.declared.desk_command.Spot.TheVariants as spots;
+
+use crate::canvas::Canvas;
+use crate::draw::draw_call;
+use crate::inputs::Inputs;
+use crate::others::{Others, plain_colour};
+use brush_obj::{BrushObj, DrawCall};
+use geom_base::Size;
+use pix_format::{ColourTable, Format, Rgb};
+use script_read::{BrushOrder, CreateOrder, DeskCommand, FaceOrder, Feed, Named, Spot};
+use std::alloc::{AllocError, Global};
+use std::marker::Model;
+
+/// The screen, and the bitmaps and brushes in the order in which they were made.
+#[derive(Drop)]
+pub struct Desk {
+    screen: Canvas,
+    /// None where a bitmap is gone.
+    bitmaps: Vec<Option<Canvas>>,
+    brushes: Vec<BrushObj>,
+}
+
+impl Model for Desk {
+    ghost use Rattle.desk_run.specs.Beside.{faces_of};
+    ghost use Rattle.desk_run.specs.Desk.{State};
+
+    ghost Value = { State };
+
+    ghost view = { λ d. record { screen = d.screen; bitmaps = d.bitmaps.items; brushes = faces_of d.brushes.items } };
+}
+
+impl Desk {
+    /// A desk whose screen has a size, with no bitmap and no brush.
+    pub fn new(alloc: Global, size: Size) -> Result<Desk, AllocError>
+        requires { IsSurfaceSize size }
+        ensures { IfOk result (λ d. d ≡ first_state (record { size = size })) }
+    {
+        let table = ColourTable::standard(alloc, Format::B8)?;
+        let screen = Canvas::new(alloc, size, Format::B8, table)?;
+        Ok(Desk {
+            screen,
+            bitmaps: Vec::new(alloc),
+            brushes: Vec::new(alloc),
+        })
+    }
+
+    /// The surface of a name, where it is there.
+    pub fn surface(&self, name: Named) -> Option<&Canvas>
+        ensures { option_copied result ≡ surface_at self.now name }
+    {
+        match name {
+            Named::Screen(0) => Some(&self.screen),
+            Named::Screen(_) => None,
+            Named::Bitmap(number) => match self.bitmaps.get(number as usize) {
+                Some(Some(bitmap)) => Some(bitmap),
+                _ => None,
+            },
+        }
+    }
+
+    /// Makes a bitmap.
+    ///
+    /// # Errors
+    ///
+    /// `AllocError` for want of memory; the desk is unchanged then.
+    pub fn create(&mut self, alloc: Global, order: &CreateOrder) -> Result<(), AllocError>
+        requires { CanCreate order.now }
+        ensures ok { OnOk result (self.new ≡ carried (asked.Create order.now) [] self.old) }
+        ensures err { OnErr result (self.new ≡ self.old) }
+    {
+        let table = ColourTable::of(alloc, order.table.colours())?;
+        let bitmap = Canvas::new(alloc, order.size, order.format, table)?;
+        match self.bitmaps.push(Some(bitmap)) {
+            Ok(()) => Ok(()),
+            Err(_) => Err(AllocError),
+        }
+    }
+
+    /// Takes a bitmap away.
+    pub fn delete(&mut self, number: u32)
+        ensures { self.new ≡ carried (asked.Delete number) [] self.old }
+    {
+        let place = number as usize;
+        if place < self.bitmaps.len() {
+            self.bitmaps[place] = None;
+        }
+    }
+
+    /// Makes a brush.
+    ///
+    /// # Errors
+    ///
+    /// `AllocError` for want of memory; the desk is unchanged then.
+    pub fn make_brush(&mut self, alloc: Global, order: &BrushOrder) -> Result<(), AllocError>
+        ensures ok { OnOk result (self.new ≡ carried (asked.Brush order.now) [] self.old) }
+        ensures err { OnErr result (self.new ≡ self.old) }
+    {
+        let brush = self.brush(alloc, order.face, order.back)?;
+        match self.brushes.push(brush) {
+            Ok(()) => Ok(()),
+            Err(_) => Err(AllocError),
+        }
+    }
+
+    /// The brush that is made of this, with the background colour in force.
+    fn brush(&self, alloc: Global, face: FaceOrder, back: Rgb) -> Result<BrushObj, AllocError>
+        ensures { IfOk result (λ b. b.face ≡ face_made self.now back face) }
+    {
+        let number = match face {
+            FaceOrder::Solid(colour) => return Ok(BrushObj::solid(alloc, colour)),
+            FaceOrder::Hatch(kind, fore, ground) => {
+                return Ok(BrushObj::hatch(alloc, kind, fore, ground));
+            }
+            FaceOrder::Pattern { bitmap } => bitmap,
+        };
+        match self.surface(Named::Bitmap(number)) {
+            Some(bitmap) => bitmap.pattern(alloc, back),
+            None => Ok(BrushObj::solid(alloc, BLACK)),
+        }
+    }
+
+    /// Carries out a drawing.
+    ///
+    /// # Errors
+    ///
+    /// `AllocError` for want of memory, where the drawing meets what it draws on; the desk is unchanged then.
+    pub fn draw(&mut self, alloc: Global, command: &DeskCommand) -> Result<(), AllocError>
+        requires { CanDraw command.now }
+        ensures ok { OnOk result (self.new ≡ carried (asked.Draw command.now) [] self.old) }
+        ensures err { OnErr result (self.new ≡ self.old) }
+        ensures meets { OnErr result (Meets self.old command.now) }
+    {
+        match command.target {
+            Spot::Desk => self.draw_on_screen(alloc, command),
+            Spot::Bitmap(number) => self.draw_on_bitmap(alloc, number, command),
+        }
+    }
+
+    fn draw_on_screen(&mut self, alloc: Global, command: &DeskCommand) -> Result<(), AllocError>
+        requires can { CanDraw command.now }
+        requires target { command.now.target ≡ spots.Desk }
+        ensures ok { OnOk result (self.new ≡ carried (asked.Draw command.now) [] self.old) }
+        ensures err { OnErr result (self.new ≡ self.old) }
+        ensures meets { OnErr result (Meets self.old command.now) }
+    {
+        let others = Others {
+            screen: None,
+            bitmaps: self.bitmaps.as_slice(),
+            brushes: self.brushes.as_slice(),
+        };
+        draw_beside(alloc, &mut self.screen, others, command)
+    }
+
+    /// The bitmap is out of its place while it is drawn on.
+    fn draw_on_bitmap(
+        &mut self,
+        alloc: Global,
+        number: u32,
+        command: &DeskCommand,
+    ) -> Result<(), AllocError>
+        requires can { CanDraw command.now }
+        requires target { command.now.target ≡ spots.Bitmap number }
+        ensures ok { OnOk result (self.new ≡ carried (asked.Draw command.now) [] self.old) }
+        ensures err { OnErr result (self.new ≡ self.old) }
+        ensures meets { OnErr result (Meets self.old command.now) }
+    {
+        let place = number as usize;
+        if place >= self.bitmaps.len() {
+            return Ok(());
+        }
+        let mut target = match self.bitmaps[place].take() {
+            Some(target) => target,
+            None => return Ok(()),
+        };
+        let others = Others {
+            screen: Some(&self.screen),
+            bitmaps: self.bitmaps.as_slice(),
+            brushes: self.brushes.as_slice(),
+        };
+        let drawn = draw_beside(alloc, &mut target, others, command);
+        self.bitmaps[place] = Some(target);
+        drawn
+    }
+}
+
+const BLACK: Rgb = Rgb { r: 0, g: 0, b: 0 };
+
+/// Carries out a drawing on a surface, beside the rest of the desk.
+fn draw_beside(
+    alloc: Global,
+    target: &mut Canvas,
+    others: Others<'_>,
+    command: &DeskCommand,
+) -> Result<(), AllocError>
+    requires { CanDraw command.now }
+    ensures ok { OnOk result ((s : State) → IsBeside s command.now.target target.old others.entry → target.new ≡ drawn s command.now None target.old) }
+    ensures err { OnErr result (target.new ≡ target.old) }
+    ensures meets { OnErr result (Reaches command.now.call target.old.size) }
+{
+    if let Feed::Row(values) = &command.source {
+        if let DrawCall::Copy(call) = &command.call {
+            target.copy_row(call, values.items());
+        }
+        return Ok(());
+    }
+    let plain = BrushObj::solid(alloc, plain_colour(command.brush));
+    let inputs = Inputs {
+        source: others.source(command.target, &command.source),
+        mask: others.mask(command.mask),
+        brush: others.brush(command.brush, &plain),
+        back: command.back,
+    };
+    draw_call(alloc, target, &command.call, &inputs)
+}

@@ -1,0 +1,97 @@
+//! What stands beside a surface that is drawn on.
+
+ghost use Rattle.std.specs.Prelude.{◌≡◌};
+ghost use Rattle.std.specs.Option.{option_copied};
+ghost use Rattle.brush_obj.specs.declared.face.BrushFace.TheVariants as faces;
+ghost use Rattle.script_read.specs.Asked.{MaskIsOther};
+ghost use Rattle.surf_obj.specs.Surface.{Surface};
+ghost use Rattle.desk_run.specs.Desk.{State, face_of, mask_of, source_of};
+ghost use Rattle.desk_run.specs.Drawing.{source_from};
+ghost use Rattle.desk_run.specs.Beside.{IsBeside, IsNoRow, plain_colour};
+
+use crate::canvas::Canvas;
+use crate::source::Source;
+use brush_obj::BrushObj;
+use pix_format::Rgb;
+use script_read::{BrushUse, Feed, Spot};
+
+/// The surfaces and brushes of a desk but for the surface that is drawn on.
+#[derive(Clone, Copy)]
+pub struct Others<'a> {
+    /// The screen, where it isn't what is drawn on.
+    pub screen: Option<&'a Canvas>,
+    /// The bitmaps by their numbers; none in the place of the one that is drawn on.
+    pub bitmaps: &'a [Option<Canvas>],
+    pub brushes: &'a [BrushObj],
+}
+
+impl<'a> Others<'a> {
+    ghost use Rattle.std.specs.Prelude.{None, slice_index_or};
+
+    /// A bitmap that is there.
+    fn bitmap(self, number: u32) -> Option<&'a Canvas>
+        ensures { option_copied result ≡ slice_index_or self.entry.bitmaps.now number None }
+    {
+        match self.bitmaps.get(number as usize) {
+            Some(Some(bitmap)) => Some(bitmap),
+            _ => None,
+        }
+    }
+
+    /// The source of a drawing.
+    pub fn source(self, spot: Spot, feed: &Feed) -> Source<'a>
+        ensures { (s : State) (t : Surface) → IsBeside s spot t self.entry → IsNoRow feed.now → source_from t result ≡ source_of s t feed.now }
+    {
+        match feed {
+            Feed::Desk => match self.screen {
+                Some(screen) => Source::Other(screen),
+                None => Source::Own,
+            },
+            Feed::Bitmap(number) => {
+                if spot == Spot::Bitmap(*number) {
+                    return Source::Own;
+                }
+                match self.bitmap(*number) {
+                    Some(bitmap) => Source::Other(bitmap),
+                    None => Source::Nothing,
+                }
+            }
+            _ => Source::Nothing,
+        }
+    }
+
+    /// The mask of a drawing.
+    pub fn mask(self, mask: Option<u32>) -> Option<&'a Canvas>
+        ensures { (s : State) (spot : Spot) (t : Surface) → IsBeside s spot t self.entry → MaskIsOther spot mask → option_copied result ≡ mask_of s mask }
+    {
+        match mask {
+            Some(number) => self.bitmap(number),
+            None => None,
+        }
+    }
+
+    /// The brush of a drawing; `plain` where it isn't one that was made.
+    pub fn brush(self, with: BrushUse, plain: &'a BrushObj) -> &'a BrushObj
+        requires { plain.now.face ≡ faces.Solid (plain_colour with) }
+        ensures { (s : State) (spot : Spot) (t : Surface) → IsBeside s spot t self.entry → result.now.face ≡ face_of s with }
+    {
+        let number = match with {
+            BrushUse::Made(number) => number,
+            _ => return plain,
+        };
+        match self.brushes.get(number as usize) {
+            Some(brush) => brush,
+            None => plain,
+        }
+    }
+}
+
+/// The colour of a brush that isn't one that was made.
+pub fn plain_colour(with: BrushUse) -> Rgb
+    ensures { result ≡ plain_colour with }
+{
+    match with {
+        BrushUse::Colour(colour) => colour,
+        _ => Rgb { r: 0, g: 0, b: 0 },
+    }
+}
