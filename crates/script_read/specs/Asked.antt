@@ -1,11 +1,10 @@
 -- What a script asks for.
-use Rattle.std.specs.Prelude.{◌≡◌, ◌≢◌, ◌≤◌, ◌*◌, ℕ, List, length, Option, Some, None}
+use Rattle.std.specs.Prelude.{◌≡◌, ◌≢◌, ◌≤◌, ◌*◌, ℕ, List, length, Option, Some}
 use Rattle.geom_base.specs.declared.size.Size.{Size}
 use Rattle.pix_format.specs.Value.{colours_of}
 use Rattle.script_read.specs.declared.desk_command.Spot.{Spot}
 use Rattle.script_read.specs.declared.desk_command.Spot.TheVariants as spots
 use Rattle.script_read.specs.declared.orders.CreateOrder.{CreateOrder}
-use Rattle.script_read.specs.declared.desk_command.DeskCommand.{DeskCommand}
 use Rattle.script_read.specs.declared.script_command.ScriptCommand.{ScriptCommand}
 use Rattle.script_read.specs.declared.script_command.ScriptCommand.TheVariants.{Create, Delete, Brush, Draw, Dump, Sum, Nothing}
 

@@ -1,8 +1,6 @@
 //! One word of a line, where names count.
 
-ghost use Rattle.std.specs.Prelude.{◌≡◌, ◌<◌, ◌≤◌, ◌^◌, IfOk, length, map, ◌==◌};
-ghost use Rattle.std.specs.Str.{bytes_eq};
-ghost use Rattle.pix_format.specs.Value.{colours_of};
+ghost use Rattle.std.specs.Prelude.{◌≡◌, length, map};
 ghost use Rattle.script_words.specs.Asking.{Gives};
 ghost use Rattle.script_words.specs.Spelling.{count_in};
 ghost use Rattle.script_read.specs.Names.{names_of};
