@@ -1,8 +1,13 @@
+pub mod Status
+pub mod Input
 pub mod Reports
 pub mod Desk
 pub mod Parts
 pub mod Drawing
 pub mod Rows
 pub mod Beside
-pub mod Status
 pub mod Meeting
+pub mod Texts
+pub mod Run
+pub mod Answers
+pub mod Config

@@ -29,6 +29,8 @@ pub enum Status {
     ReadFault,
     /// The sink failed.
     WriteFault,
+    /// All was carried out and written, and memory was wanting for some drawing.
+    MemorySeen,
 }
 
 impl Status {
@@ -43,6 +45,7 @@ impl Status {
             Status::NoMemory => 4,
             Status::ReadFault => 5,
             Status::WriteFault => 6,
+            Status::MemorySeen => 9,
         }
     }
 }

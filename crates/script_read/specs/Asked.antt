@@ -1,5 +1,5 @@
 -- What a script asks for.
-use Rattle.std.specs.Prelude.{◌≡◌, ◌≢◌, ◌≤◌, ◌*◌, ℕ, List, length, Option, Some, None}
+use Rattle.std.specs.Prelude.{◌≡◌, ◌≢◌, ◌≤◌, ◌*◌, ℕ, List, length, Option, Some}
 use Rattle.geom_base.specs.declared.size.Size.{Size}
 use Rattle.pix_format.specs.Value.{colours_of}
 use Rattle.script_read.specs.declared.desk_command.Spot.{Spot}

@@ -1,8 +1,7 @@
 -- The commands, one for each word: how many words a line has, and what it means.
-use Rattle.std.specs.Prelude.{ℕ, ◌+◌, ◌-◌, ◌*◌, List, [], ◌∷◌, ◌++◌, length, drop, codes, Option, Some, None, Result, Ok, Err, ◌==◌, nat_lt, nat_le, Bool, ◌&&◌, ◌||◌, if◌then◌else◌}
+use Rattle.std.specs.Prelude.{ℕ, ◌+◌, ◌-◌, ◌*◌, List, [], ◌∷◌, ◌++◌, length, drop, codes, None, Result, Ok, Err, ◌==◌, nat_lt, nat_le, Bool, ◌&&◌, ◌||◌, if◌then◌else◌}
 use Rattle.std.specs.Str.{bytes_eq}
 use Rattle.geom_base.specs.declared.size.Size.{Size}
-use Rattle.pix_format.specs.declared.rgb.Rgb.{Rgb}
 use Rattle.pix_format.specs.Value.{colours_of}
 use Rattle.rop_mix.specs.Needs.{source_needed, mask_needed}
 use Rattle.brush_obj.specs.declared.draw_call.DrawCall.TheVariants as calls
@@ -58,13 +57,16 @@ create_at names number words = do
 unfoldable pub keep_bitmap : State → List ℕ → CreateOrder → Meaning
 keep_bitmap s name o = do
   _ ← ask (has_room_for s o.size) PastLimit
-  Ok (asked.Create o, record s {
-    names = with_name name (bitmap (record { number = o.number; size = o.size; format = o.format })) s.names;
-    live = s.live + 1;
-    bitmaps = s.bitmaps + 1;
-    pixels = s.pixels + o.size.w * o.size.h;
-    made = s.made ++ name ∷ [];
-  })
+  Ok (
+    asked.Create o,
+    record s {
+      names = with_name name (bitmap (record { number = o.number; size = o.size; format = o.format })) s.names;
+      live = s.live + 1;
+      bitmaps = s.bitmaps + 1;
+      pixels = s.pixels + o.size.w * o.size.h;
+      made = s.made ++ name ∷ [];
+    },
+  )
 
 -- bitmap NAME W H FORMAT [TABLE]; its number is how many were made before
 unfoldable pub read_bitmap : State → List (List ℕ) → Meaning
@@ -97,11 +99,14 @@ read_brush s words = do
   _ ← new_name s.names name
   face ← face_at s.names words
   _ ← ask (face.1 && has_room s && nat_lt s.brushes 1024) PastLimit
-  Ok (asked.Brush (record { number = s.brushes; face = face.0; back = s.back }), record s {
-    names = with_name name (brush s.brushes) s.names;
-    live = s.live + 1;
-    brushes = s.brushes + 1;
-  })
+  Ok (
+    asked.Brush (record { number = s.brushes; face = face.0; back = s.back }),
+    record s {
+      names = with_name name (brush s.brushes) s.names;
+      live = s.live + 1;
+      brushes = s.brushes + 1;
+    },
+  )
 
 -- brushorg X Y
 unfoldable pub read_brushorg : State → List (List ℕ) → Meaning
@@ -124,12 +129,15 @@ unfoldable pub read_delete : State → List (List ℕ) → Meaning
 read_delete s words = do
   let name = word_at words 1
   b ← bitmap_at s.names name
-  Ok (asked.Delete b.number, record s {
-    names = without_name name s.names;
-    live = s.live - 1;
-    bitmaps = s.bitmaps - 1;
-    pixels = s.pixels - b.size.w * b.size.h;
-  })
+  Ok (
+    asked.Delete b.number,
+    record s {
+      names = without_name name s.names;
+      live = s.live - 1;
+      bitmaps = s.bitmaps - 1;
+      pixels = s.pixels - b.size.w * b.size.h;
+    },
+  )
 
 -- dump X
 unfoldable pub read_dump : State → List (List ℕ) → Meaning

@@ -1,8 +1,7 @@
 -- One word of a line, where names count: its value, or its first fault.
-use Rattle.std.specs.Prelude.{ℕ, ◌+◌, List, drop, slice_index, codes, Option, Some, None, is_none, Result, Ok, Err, Bool, true, ◌==◌, ◌&&◌, ◌||◌, nat_le, not, if◌then◌else◌}
+use Rattle.std.specs.Prelude.{ℕ, List, drop, slice_index, codes, Option, Some, None, is_none, Result, Ok, Err, Bool, true, ◌==◌, ◌&&◌, ◌||◌, nat_le, not, if◌then◌else◌}
 use Rattle.std.specs.Char.{is_ascii_alphabetic}
 use Rattle.std.specs.Str.{bytes_eq}
-use Rattle.geom_base.specs.declared.size.Size.{Size}
 use Rattle.pix_format.specs.declared.format.Format.{Format}
 use Rattle.pix_format.specs.declared.format.Format.TheVariants.{B1, B4, B8, B555, B565, B24, B32}
 use Rattle.pix_format.specs.declared.rgb.Rgb.{Rgb}
@@ -149,10 +148,18 @@ face_at names words =
     else if bytes_eq (word_at words 2) (codes "pattern") then pattern_at names words
     else Err Spelling
 
--- the one screen by its number, or a bitmap by its name, which begins with a letter
-abbrev pub named_at : NameMap → List ℕ → Result Named Fault
-named_at names word = if is_ascii_alphabetic (slice_index word 0) then (do
+-- a bitmap by its name
+abbrev pub named_bitmap : NameMap → List ℕ → Result Named Fault
+named_bitmap names word = do
   b ← bitmap_at names word
-  Ok (named.Bitmap b.number)) else (do
+  Ok (named.Bitmap b.number)
+
+-- the one screen by its number
+abbrev pub named_screen : List ℕ → Result Named Fault
+named_screen word = do
   number ← count_in 0 0 word
-  Ok (named.Screen number))
+  Ok (named.Screen number)
+
+-- a bitmap's name begins with a letter
+abbrev pub named_at : NameMap → List ℕ → Result Named Fault
+named_at names word = if is_ascii_alphabetic (slice_index word 0) then named_bitmap names word else named_screen word

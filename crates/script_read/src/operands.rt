@@ -46,12 +46,7 @@ fn is_brush(brush: BrushUse) -> bool
 }
 
 /// Source, mask and brush are given where the raster operation needs them.
-pub fn has_operands(
-    rop: Rop4,
-    source: Option<Spot>,
-    mask: Option<Bitmap>,
-    brush: BrushUse,
-) -> bool
+pub fn has_operands(rop: Rop4, source: Option<Spot>, mask: Option<Bitmap>, brush: BrushUse) -> bool
     ensures { result ≡ has_operands rop.code source mask brush }
 {
     (!needs_source(rop) || source.is_some())

@@ -16,7 +16,8 @@ use std::process::Abort;
 use std::test::Fail;
 
 /// Names that a line may use.
-const NAMES: &str = "bitmap mono 4 2 1\nbitmap grey 4 2 4\nbitmap wide 65 1 8\ntable two 000000 FFFFFF\nbrush red solid FF0000\n";
+const NAMES: &str =
+    "bitmap mono 4 2 1\nbitmap grey 4 2 4\nbitmap wide 65 1 8\ntable two 000000 FFFFFF\nbrush red solid FF0000\n";
 
 /// Lines behind these names, and the number of each refusal; 0 where the line is taken.
 const LINES: [(&str, u32); 105] = [
@@ -136,11 +137,27 @@ const SCRIPTS: [(&str, u64, u32); 14] = [
     ("dump 0\r\n", 0, 0),
     ("dump 0\r\r\n", 1, 3),
     ("back 000000\r\nback 00000\nfrob", 2, 3),
-    ("bitmap b 1 1 8\ndelete b\nbitmap b 1 1 8\ndelete b\nbrush b solid 000000\ndump b", 6, 5),
+    (
+        "bitmap b 1 1 8\ndelete b\nbitmap b 1 1 8\ndelete b\nbrush b solid 000000\ndump b",
+        6,
+        5,
+    ),
     ("bitmap b 1 1 8\ndelete b\ndelete b", 3, 5),
-    ("bitmap b 1 1 8\nbitmap c 1 1 8\ndelete b\ndump c\ndump b", 5, 5),
-    ("bitmap a 4096 1024 8\nbitmap b 4096 1024 8\nbitmap c 4096 1024 8\nbitmap d 4096 1024 8\nbitmap e 1 1 8", 5, 12),
-    ("bitmap a 4096 1024 8\nbitmap b 4096 1024 8\nbitmap c 4096 1024 8\nbitmap d 4096 1024 8\ndelete b\nbitmap e 4096 1024 8\nbitmap f 1 1 8", 7, 12),
+    (
+        "bitmap b 1 1 8\nbitmap c 1 1 8\ndelete b\ndump c\ndump b",
+        5,
+        5,
+    ),
+    (
+        "bitmap a 4096 1024 8\nbitmap b 4096 1024 8\nbitmap c 4096 1024 8\nbitmap d 4096 1024 8\nbitmap e 1 1 8",
+        5,
+        12,
+    ),
+    (
+        "bitmap a 4096 1024 8\nbitmap b 4096 1024 8\nbitmap c 4096 1024 8\nbitmap d 4096 1024 8\ndelete b\nbitmap e 4096 1024 8\nbitmap f 1 1 8",
+        7,
+        12,
+    ),
     ("bitmap a 1 1 8\nbrush a solid 000000", 2, 6),
     ("table t 000000 FFFFFF\nbitmap t 1 1 1 t", 2, 6),
 ];
@@ -168,7 +185,11 @@ fn lines_that_are_refused_or_taken(rt: HostRuntime) -> Result<(), Fail> {
 #[test]
 fn scripts_that_are_refused_or_taken(rt: HostRuntime) {
     for (script, line, number) in SCRIPTS {
-        assert_eq!(rt; refusal(rt.alloc(), script.as_bytes()), (line, number), "{script:?}");
+        assert_eq!(rt;
+            refusal(rt.alloc(), script.as_bytes()),
+            (line, number),
+            "{script:?}"
+        );
     }
 }
 
@@ -238,6 +259,12 @@ const WHITE: Rgb = Rgb {
 
 const DARK: Rgb = Rgb { r: 1, g: 2, b: 3 };
 
+const SOLID: Rgb = Rgb {
+    r: 10,
+    g: 11,
+    b: 12,
+};
+
 /// A source as two numbers: its kind, and its bitmap or the sum of its values.
 fn feed(source: &Feed) -> (u32, u64) {
     match source {
@@ -251,56 +278,26 @@ fn feed(source: &Feed) -> (u32, u64) {
     }
 }
 
-/// Target, call, source, mask, brush and background of each drawing of the script, from its ninth command on.
-fn drawings() -> [(Spot, DrawCall, (u32, u64), Option<u32>, BrushUse, Rgb); 5] {
+/// Target, call, source, mask and brush of a drawing.
+type Drawing = (Spot, DrawCall, (u32, u64), Option<u32>, BrushUse);
+
+/// The drawings of the script, from its ninth command on.
+fn drawings() -> [Drawing; 5] {
+    let mask = Point { x: 0, y: -1 };
     let two = rect(0, 0, 2, 2);
-    let row = rect(1, 2, 3, 3);
-    let solid = Rgb {
-        r: 10,
-        g: 11,
-        b: 12,
-    };
+    let masked = blt(two, mask, 0xb8aa);
+    let plain = blt(two, mask, 0xcccc);
+    let moved = copy(rect(-3, 0, 4, 4), Point { x: 7, y: 8 });
+    let mixed = paint(rect(0, 0, 1, 1), 6);
+    let row = copy(rect(1, 2, 3, 3), Point { x: 0, y: 0 });
+    let none = BrushUse::Nothing;
+    let solid = BrushUse::Colour(SOLID);
     [
-        (
-            Spot::Bitmap(1),
-            blt(two, Point { x: 0, y: -1 }, 0xb8aa),
-            (1, 0),
-            Some(0),
-            BrushUse::Made(1),
-            WHITE,
-        ),
-        (
-            Spot::Desk,
-            blt(two, Point { x: 0, y: -1 }, 0xcccc),
-            (2, 0),
-            None,
-            BrushUse::Nothing,
-            WHITE,
-        ),
-        (
-            Spot::Desk,
-            copy(rect(-3, 0, 4, 4), Point { x: 7, y: 8 }),
-            (2, 1),
-            None,
-            BrushUse::Nothing,
-            WHITE,
-        ),
-        (
-            Spot::Bitmap(0),
-            paint(rect(0, 0, 1, 1), 6),
-            (0, 0),
-            None,
-            BrushUse::Colour(solid),
-            WHITE,
-        ),
-        (
-            Spot::Bitmap(1),
-            copy(row, Point { x: 0, y: 0 }),
-            (3, 0x7fff_0001),
-            None,
-            BrushUse::Nothing,
-            WHITE,
-        ),
+        (Spot::Bitmap(1), masked, (1, 0), Some(0), BrushUse::Made(1)),
+        (Spot::Desk, plain, (2, 0), None, none),
+        (Spot::Desk, moved, (2, 1), None, none),
+        (Spot::Bitmap(0), mixed, (0, 0), None, solid),
+        (Spot::Bitmap(1), row, (3, 0x7fff_0001), None, none),
     ]
 }
 
@@ -353,7 +350,7 @@ fn drawings_of_a_script(rt: HostRuntime) {
     let script = whole_script(&rt, rt.alloc());
     let wanted = drawings();
     for i in 0..wanted.len() {
-        let (target, call, source, mask, brush, back) = wanted[i];
+        let (target, call, source, mask, brush) = wanted[i];
         match script.commands().get(i + 8) {
             Some(ScriptCommand::Draw(drawing)) => {
                 assert_eq!(rt; drawing.target, target, "drawing {i}");
@@ -361,7 +358,7 @@ fn drawings_of_a_script(rt: HostRuntime) {
                 assert_eq!(rt; feed(&drawing.source), source, "drawing {i}");
                 assert_eq!(rt; drawing.mask, mask, "drawing {i}");
                 assert_eq!(rt; drawing.brush, brush, "drawing {i}");
-                assert_eq!(rt; drawing.back, back, "drawing {i}");
+                assert_eq!(rt; drawing.back, WHITE, "drawing {i}");
             }
             _ => panic!(rt; "drawing {i}"),
         }
@@ -426,9 +423,17 @@ fn brushes_and_texts_of_a_script(rt: HostRuntime) {
     assert_eq!(rt; brush(&script, 5), Some(dots));
     assert_eq!(rt; brush(&script, 7), Some(lines));
     for i in [0, 1, 2, 6] {
-        assert!(rt; matches!(script.commands().get(i), Some(ScriptCommand::Nothing)), "{i}");
+        assert!(rt;
+            matches!(script.commands().get(i), Some(ScriptCommand::Nothing)),
+            "{i}"
+        );
     }
     let commands = script.commands();
-    assert!(rt; matches!(commands.get(13), Some(ScriptCommand::Dump(Named::Screen(0)))));
+    assert!(rt;
+        matches!(
+            commands.get(13),
+            Some(ScriptCommand::Dump(Named::Screen(0)))
+        )
+    );
     assert!(rt; matches!(commands.get(14), Some(ScriptCommand::Sum(Named::Bitmap(1)))));
 }

@@ -10,6 +10,8 @@ mod finding;
 mod places;
 mod spelling;
 mod splitting;
+#[cfg(test)]
+mod tests;
 
 pub use fault::{Fault, ReadError};
 pub use finding::{FoundLine, find_line, first_lines};

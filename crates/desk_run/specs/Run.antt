@@ -1,0 +1,133 @@
+-- A run: commands one after the other, and what is written of them.
+use Rattle.std.specs.Prelude.{◌≡◌, ℕ, ◌+◌, Bool, true, false, List, [], ◌∷◌, ◌++◌, length, map, take, drop, Option, Some, Result, Ok, Err, ◌⊎◌, ◌==◌}
+use Rattle.std.specs.List.{flat_map, list_all}
+use Rattle.std.specs.Option.{option_map_or}
+use Rattle.std.specs.declared.alloc.AllocError.{AllocError}
+use Rattle.desk_io.specs.Sinks.{Puts}
+use Rattle.desk_io.specs.declared.sink.WriteFault.{WriteFault as Fault}
+use Rattle.script_read.specs.declared.desk_command.DeskCommand.{DeskCommand}
+use Rattle.script_read.specs.declared.script_command.ScriptCommand.{ScriptCommand}
+use Rattle.script_read.specs.declared.script_command.ScriptCommand.TheVariants.{Create, Delete, Brush, Draw, Dump, Sum, Nothing}
+use Rattle.desk_run.specs.declared.run.Ended.{Ended}
+use Rattle.desk_run.specs.declared.run.Given.{Given}
+use Rattle.desk_run.specs.declared.run.Given.TheVariants.{Whole, Wanting, Lacking, Broken}
+use Rattle.desk_run.specs.declared.run.Ended.TheVariants.{Done, MemorySeen, NoMemory, WriteFault}
+use Rattle.desk_run.specs.Reports.{Told, Cause, memory}
+use Rattle.desk_run.specs.Desk.{State, surface_at, name_of, carried}
+use Rattle.desk_run.specs.Meeting.{Meets}
+use Rattle.desk_run.specs.Texts.{BitmapNames, report_text, dump_text, sum_text, end_text}
+
+-- a command that was carried out, with its reports
+pub record Entry : Type 0 where
+  pub command : ScriptCommand
+  pub told : List Told
+
+abbrev pub commands_of : List Entry → List ScriptCommand
+commands_of = map (λ (e : Entry). e.command)
+
+-- the state after these commands with these reports
+abbrev pub run : List Entry → State → State
+run [] s = s
+run (e ∷ es) s = run es (carried e.command e.told s)
+
+-- a report that memory was wanting for a drawing: on what it draws on and meets, with nothing drawn
+pub record IsWanting (s : State) (c : DeskCommand) (t : Told) : Type 0 where
+  pub target : t.target ≡ name_of c.target
+  pub cause : t.cause ≡ memory
+  pub nothing : t.rects ≡ []
+  pub meets : Meets s c
+
+-- the reports that a command may have: none, or a drawing one for want of memory
+abbrev pub MayTell : State → ScriptCommand → List Told → Type 0
+MayTell s command [] = Unit {0}
+MayTell s (Draw c) (t ∷ []) = IsWanting s c t
+MayTell s command told = ⊥
+
+-- each command has reports that it may have, in the state before it
+abbrev pub MayTellAll : State → List Entry → Type 0
+MayTellAll s [] = Unit {0}
+MayTellAll s (e ∷ es) = MayTell s e.command e.told × MayTellAll (carried e.command e.told s) es
+
+-- the lines of command n with its reports, in the state before it
+abbrev pub text_of : BitmapNames → ℕ → ScriptCommand → List Told → State → List ℕ
+text_of names n (Draw c) told s = flat_map (report_text names n) told
+text_of names n (Dump q) told s = option_map_or (dump_text names q) (surface_at s q) []
+text_of names n (Sum q) told s = option_map_or (sum_text names q) (surface_at s q) []
+text_of names n (Create o) told s = []
+text_of names n (Delete b) told s = []
+text_of names n (Brush o) told s = []
+text_of names n Nothing told s = []
+
+-- the lines of these commands, the first being number n
+abbrev pub body : BitmapNames → ℕ → List Entry → State → List ℕ
+body names n [] s = []
+body names n (e ∷ es) s = text_of names n e.command e.told s ++ body names (n + 1) es (carried e.command e.told s)
+
+-- all that is written
+abbrev pub out : BitmapNames → List Entry → State → List ℕ
+out names h s = body names 1 h s ++ end_text (length h)
+
+-- nothing was reported
+abbrev pub is_whole : List Entry → Bool
+is_whole h = list_all (λ (e : Entry). length e.told == 0) h
+
+-- a command that makes something, and so may end a run for want of memory
+abbrev pub Makes : ScriptCommand → Type 0
+Makes (Create o) = Unit {0}
+Makes (Brush o) = Unit {0}
+Makes command = ⊥
+
+abbrev pub NextMakes : List ScriptCommand → Type 0
+NextMakes [] = ⊥
+NextMakes (command ∷ commands) = Makes command
+
+-- which commands were carried out; for want of memory the next one makes something
+abbrev pub EndsAs : List ScriptCommand → List Entry → Ended → Type 0
+EndsAs commands h Done = commands_of h ≡ commands
+EndsAs commands h MemorySeen = commands_of h ≡ commands
+EndsAs commands h NoMemory = (commands_of h ≡ take (length h) commands) × NextMakes (drop (length h) commands)
+EndsAs commands h WriteFault = commands_of h ≡ take (length h) commands
+
+-- whether something was reported
+abbrev pub SeenAs : List Entry → Ended → Type 0
+SeenAs h Done = is_whole h ≡ true
+SeenAs h MemorySeen = is_whole h ≡ false
+SeenAs h ended = Unit {0}
+
+-- what was written of them: all; for want of memory the lines of the commands that were carried out; or, where the sink failed, a prefix
+-- of these lines, or of all where no command was left
+abbrev pub WroteAs : BitmapNames → List ScriptCommand → State → List Entry → Option (List ℕ) → Option (List ℕ) → ℕ → ℕ → Ended → Type 0
+WroteAs names commands s h old new x y Done = Puts (out names h s) old new x y false
+WroteAs names commands s h old new x y MemorySeen = Puts (out names h s) old new x y false
+WroteAs names commands s h old new x y NoMemory = Puts (body names 1 h s) old new x y false
+WroteAs names commands s h old new x y WriteFault = Puts (body names 1 h s) old new x y true ⊎ ((commands_of h ≡ commands) × Puts (out names h s) old new x y true)
+
+-- a whole run: the commands that were carried out with their reports, and what was written of them
+pub record Ran (names : BitmapNames) (commands : List ScriptCommand) (s : State) (old new : Option (List ℕ)) (before after : ℕ) (ended : Ended) (h : List Entry) : Type 0 where
+  pub ends : EndsAs commands h ended
+  pub tells : MayTellAll s h
+  pub seen : SeenAs h ended
+  pub wrote : WroteAs names commands s h old new before after ended
+
+-- one command that was carried out with these reports, and what was written of it
+pub record Carried (names : BitmapNames) (n : ℕ) (command : ScriptCommand) (s t : State) (old new : Option (List ℕ)) (before after : ℕ) (failed : Bool) (told : List Told) : Type 0 where
+  pub tells : MayTell s command told
+  pub shows : t ≡ carried command told s
+  pub wrote : Puts (text_of names n command told s) old new before after failed
+
+-- what carrying out a command gave: it is done whole; or it lacked memory and was reported, or is to make something; or the sink failed
+abbrev pub GaveAs : BitmapNames → ℕ → ScriptCommand → State → State → Option (List ℕ) → Option (List ℕ) → ℕ → ℕ → Given → Type 0
+GaveAs names n command s t old new x y Whole = Carried names n command s t old new x y false []
+GaveAs names n command s t old new x y Wanting = (told : Told) × Carried names n command s t old new x y false (told ∷ [])
+GaveAs names n command s t old new x y Lacking = Makes command × (t ≡ s) × (new ≡ old) × (y ≡ x)
+GaveAs names n command s t old new x y Broken = (told : List Told) × Carried names n command s t old new x y true told
+
+-- a command that made something is done; one that didn't lacks memory
+abbrev pub MadeAs : Result (Unit {0}) AllocError → Given → Type 0
+MadeAs (Ok x) given = given ≡ Whole
+MadeAs (Err e) given = given ≡ Lacking
+
+-- a command whose lines were written is done; else the sink failed
+abbrev pub WrittenAs : Result (Unit {0}) Fault → Given → Type 0
+WrittenAs (Ok x) given = given ≡ Whole
+WrittenAs (Err e) given = given ≡ Broken

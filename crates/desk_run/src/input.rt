@@ -1,0 +1,85 @@
+//! A whole input: a configuration and a script.
+
+ghost use Rattle.std.specs.Prelude.{◌≡◌, ◌≤◌, ◌<◌, ◌+◌, ◌^◌, length, IfOk, All};
+ghost use Rattle.std.specs.Option.{option_copied};
+ghost use Rattle.desk_run.specs.Input.{checked, AnswersInput, AnswersScript, script_of};
+ghost use Rattle.script_words.specs.Lines.{lines_after};
+ghost use Rattle.script_read.specs.Asked.{CanDo, IsSurfaceSize};
+ghost use Rattle.desk_run.specs.declared.config.DeskConfig.{DeskConfig};
+ghost use Rattle.desk_run.specs.declared.input.InputError.TheVariants.{Refused, NoMemory};
+ghost use Rattle.desk_io.specs.Sources.{most_bytes};
+
+use crate::config::{DeskConfig, read_config};
+use crate::status::InputRefusal;
+use script_read::{Script, ScriptRefusal, read_script};
+use script_words::{FoundLine, find_line};
+use std::alloc::{AllocError, Global};
+
+/// What an input asks for.
+#[derive(Drop)]
+pub struct Input<'a> {
+    pub config: DeskConfig,
+    pub script: Script<'a>,
+}
+
+/// Why nothing is asked.
+#[derive(Clone, Copy, Debug, PartialEq, Eq)]
+pub enum InputError {
+    Refused(InputRefusal),
+    NoMemory,
+}
+
+impl From<InputRefusal> for InputError {
+    ghost from_gives = { λ r e. e ≡ Refused r };
+
+    fn from(refusal: InputRefusal) -> InputError {
+        InputError::Refused(refusal)
+    }
+}
+
+impl From<AllocError> for InputError {
+    ghost from_gives = { λ _ e. e ≡ NoMemory };
+
+    fn from(_e: AllocError) -> InputError {
+        InputError::NoMemory
+    }
+}
+
+/// What the lines behind a found line ask for.
+#[tactic(auto, unfolding(script_read::specs::Reading::read_lines))]
+fn read_lines<'a>(alloc: Global, found: FoundLine<'a>) -> Result<Script<'a>, InputError>
+    requires { found.before + 2 + length (lines_after (option_copied found.after)) < 2 ^ 64 }
+    ensures value { AnswersScript result (script_of (found.entry.before + 2) (lines_after (option_copied found.entry.after))) }
+    ensures can { IfOk result (λ s. All CanDo s.commands) }
+    ensures few { IfOk result (λ s. length s.commands ≤ 100000) }
+{
+    let text = match found.after {
+        Some(text) => text,
+        None => return Ok(Script::of(Vec::new(alloc), Vec::new(alloc))),
+    };
+    match read_script(alloc, text, found.before as u64 + 2) {
+        Ok(script) => Ok(script),
+        Err(ScriptRefusal::Refused { line, number }) => {
+            Err(InputError::Refused(InputRefusal::Script { line, number }))
+        }
+        Err(ScriptRefusal::NoMemory) => Err(InputError::NoMemory),
+    }
+}
+
+/// Reads an input, or says what is wrong with it.
+#[tactic(auto, unfolding(crate::specs::Input::checked))]
+pub fn read_input<'a>(alloc: Global, bytes: &'a [u8]) -> Result<Input<'a>, InputError>
+    requires { length bytes.now ≤ most_bytes }
+    ensures checked { AnswersInput result (checked bytes.now) }
+    ensures size { IfOk result (λ i. IsSurfaceSize i.config.size) }
+    ensures can { IfOk result (λ i. All CanDo i.script.commands) }
+    ensures few { IfOk result (λ i. length i.script.commands ≤ 100000) }
+{
+    let found = match find_line(bytes, b"%%") {
+        Some(found) => found,
+        None => return Err(InputError::Refused(InputRefusal::Config { number: 10 })),
+    };
+    let config = read_config(alloc, bytes, found.before)?;
+    let script = read_lines(alloc, found)?;
+    Ok(Input { config, script })
+}

@@ -1,0 +1,206 @@
+//! Commands in order, with what is written of them.
+
+ghost use Rattle.std.specs.Prelude.{◌≡◌, ◌≤◌, ◌+◌, ◌*◌, ℕ, List, [], length, All, is_err};
+ghost use Rattle.std.specs.Option.{option_map_or};
+ghost use Rattle.desk_io.specs.Sinks.{Puts};
+ghost use Rattle.script_read.specs.Asked.{CanDo, CanDraw};
+ghost use Rattle.script_read.specs.declared.script_command.ScriptCommand.TheVariants as asked;
+ghost use Rattle.desk_run.specs.Desk.{State, name_of, surface_at, carried};
+ghost use Rattle.desk_run.specs.Texts.{dump_text, sum_text};
+ghost use Rattle.desk_run.specs.Run.{Entry, GaveAs, MadeAs, WrittenAs, Ran, run};
+
+use crate::desk::Desk;
+use crate::dump::put_dump;
+use crate::sum::put_sum;
+use crate::text::{end_line, wanting_line};
+use desk_io::{Sink, WriteFault, write_all};
+use script_read::{DeskCommand, Named, Script, ScriptCommand, Spot};
+use std::alloc::{AllocError, Global};
+
+/// How the commands ended.
+#[derive(Clone, Copy, Debug, PartialEq, Eq)]
+pub enum Ended {
+    Done,
+    /// All was carried out, and memory was wanting for some drawing.
+    MemorySeen,
+    /// There was no memory for what a command makes.
+    NoMemory,
+    WriteFault,
+}
+
+/// What carrying out a command gave.
+#[derive(Clone, Copy, Debug, PartialEq, Eq)]
+pub enum Given {
+    /// It is done, and its lines are written.
+    Whole,
+    /// There was no memory for a drawing, and that is written.
+    Wanting,
+    /// There was no memory for what it makes.
+    Lacking,
+    /// The sink failed.
+    Broken,
+}
+
+/// What making something gave.
+fn given_of(made: Result<(), AllocError>) -> Given
+    ensures { MadeAs made result }
+{
+    match made {
+        Ok(()) => Given::Whole,
+        Err(_) => Given::Lacking,
+    }
+}
+
+/// What writing gave.
+fn given_by(written: Result<(), WriteFault>) -> Given
+    ensures { WrittenAs written result }
+{
+    match written {
+        Ok(()) => Given::Whole,
+        Err(_) => Given::Broken,
+    }
+}
+
+/// Writes the lines of a dump of a surface that is there.
+fn dump<K: Sink>(
+    sink: &mut K,
+    script: &Script<'_>,
+    desk: &Desk,
+    name: Named,
+    values: &mut [u32],
+    line: &mut [u8],
+) -> Result<(), WriteFault>
+    requires values { length values.old ≡ 4096 }
+    requires line { length line.old ≡ 32769 }
+    ensures { Puts (option_map_or (dump_text script.now.names name) (surface_at desk.now name) []) (K.written sink.old) (K.written sink.new) (K.faults sink.old) (K.faults sink.new) (is_err result) }
+{
+    let canvas = match desk.surface(name) {
+        Some(canvas) => canvas,
+        None => return Ok(()),
+    };
+    let width = canvas.size().w as usize;
+    let length = canvas.format().digits() as usize * width + 1;
+    put_dump(
+        sink,
+        script,
+        name,
+        canvas,
+        &mut values[..width],
+        &mut line[..length],
+    )
+}
+
+/// Writes the line of a sum of a surface that is there.
+fn sum<K: Sink>(
+    sink: &mut K,
+    script: &Script<'_>,
+    desk: &Desk,
+    name: Named,
+    values: &mut [u32],
+) -> Result<(), WriteFault>
+    requires { length values.old ≡ 4096 }
+    ensures { Puts (option_map_or (sum_text script.now.names name) (surface_at desk.now name) []) (K.written sink.old) (K.written sink.new) (K.faults sink.old) (K.faults sink.new) (is_err result) }
+{
+    let canvas = match desk.surface(name) {
+        Some(canvas) => canvas,
+        None => return Ok(()),
+    };
+    let width = canvas.size().w as usize;
+    put_sum(sink, script, name, canvas, &mut values[..width])
+}
+
+/// Carries out a drawing; where there is no memory for it, that is written.
+fn draw<K: Sink>(
+    alloc: Global,
+    desk: &mut Desk,
+    script: &Script<'_>,
+    number: u64,
+    command: &DeskCommand,
+    sink: &mut K,
+) -> Given
+    requires { CanDraw command.now }
+    ensures { GaveAs script.now.names number (asked.Draw command.now) desk.old desk.new (K.written sink.old) (K.written sink.new) (K.faults sink.old) (K.faults sink.new) result }
+{
+    if desk.draw(alloc, command).is_ok() {
+        return Given::Whole;
+    }
+    let line = wanting_line(script, number, name_of(command.target));
+    match write_all(sink, line.as_slice()) {
+        Ok(()) => Given::Wanting,
+        Err(_) => Given::Broken,
+    }
+}
+
+/// What the output names of what is drawn on.
+fn name_of(spot: Spot) -> Named
+    ensures { result ≡ name_of spot }
+{
+    match spot {
+        Spot::Desk => Named::Screen(0),
+        Spot::Bitmap(number) => Named::Bitmap(number),
+    }
+}
+
+/// Carries out a command, and writes its lines.
+fn carry_out<K: Sink>(
+    alloc: Global,
+    desk: &mut Desk,
+    script: &Script<'_>,
+    number: u64,
+    command: &ScriptCommand,
+    values: &mut [u32],
+    line: &mut [u8],
+    sink: &mut K,
+) -> Given
+    requires can { CanDo command.now }
+    requires values { length values.old ≡ 4096 }
+    requires line { length line.old ≡ 32769 }
+    ensures { GaveAs script.now.names number command.now desk.old desk.new (K.written sink.old) (K.written sink.new) (K.faults sink.old) (K.faults sink.new) result }
+{
+    match command {
+        ScriptCommand::Create(order) => given_of(desk.create(alloc, order)),
+        ScriptCommand::Delete(number) => {
+            desk.delete(*number);
+            Given::Whole
+        }
+        ScriptCommand::Brush(order) => given_of(desk.make_brush(alloc, order)),
+        ScriptCommand::Draw(command) => draw(alloc, desk, script, number, command, sink),
+        ScriptCommand::Dump(name) => given_by(dump(sink, script, desk, *name, values, line)),
+        ScriptCommand::Sum(name) => given_by(sum(sink, script, desk, *name, values)),
+        ScriptCommand::Nothing => Given::Whole,
+    }
+}
+
+/// Carries out commands of a script in order, and writes their lines. After a fault of the sink, and where there is no memory for
+/// what a command makes, no further command is carried out.
+pub fn run_all<K: Sink>(
+    alloc: Global,
+    desk: &mut Desk,
+    script: &Script<'_>,
+    commands: &[ScriptCommand],
+    values: &mut [u32],
+    line: &mut [u8],
+    sink: &mut K,
+) -> Ended
+    requires can { All CanDo commands.now }
+    requires few { length commands.now ≤ 100000 }
+    requires values { length values.old ≡ 4096 }
+    requires line { length line.old ≡ 32769 }
+    ensures { (h : List Entry) × Ran script.now.names commands.now desk.old (K.written sink.old) (K.written sink.new) (K.faults sink.old) (K.faults sink.new) result h × (desk.new ≡ run h desk.old) }
+{
+    let mut whole = true;
+    for i in 0..commands.len() {
+        let number = i as u64 + 1;
+        match carry_out(alloc, desk, script, number, &commands[i], values, line, sink) {
+            Given::Whole => {}
+            Given::Wanting => whole = false,
+            Given::Lacking => return Ended::NoMemory,
+            Given::Broken => return Ended::WriteFault,
+        }
+    }
+    let last = end_line(commands.len() as u64);
+    if write_all(sink, last.as_slice()).is_err() {
+        return Ended::WriteFault;
+    }
+    if whole { Ended::Done } else { Ended::MemorySeen }
+}

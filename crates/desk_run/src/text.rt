@@ -1,0 +1,164 @@
+//! Lines, made in a place of fixed size.
+
+ghost use Rattle.std.specs.Prelude.{◌≡◌, ◌≤◌, ◌+◌, ◌*◌, ◌<◌, ◌++◌, [], length, decimal, codes};
+ghost use Rattle.arrayvec.specs.ArrayVec.{array_vec_len};
+ghost use Rattle.desk_run.specs.Reports.{memory};
+ghost use Rattle.desk_run.specs.Texts as spec;
+
+use crate::dump::put_hex;
+use crate::status::{InputRefusal, Status};
+use arrayvec::ArrayVec;
+use geom_base::Size;
+use itoa::Buffer;
+use pix_format::Format;
+use script_read::{Named, Script};
+
+pub type Line = ArrayVec<u8, 200>;
+
+fn add(line: &mut Line, piece: &[u8])
+    requires { array_vec_len line.old + length piece.now ≤ 200 }
+    ensures items { line.new.items ≡ line.old.items ++ piece.now }
+    ensures len { array_vec_len line.new ≡ array_vec_len line.old + length piece.now }
+{
+    for byte in piece {
+        line.push(*byte);
+    }
+}
+
+fn add_number(line: &mut Line, n: u64)
+    requires { array_vec_len line.old + 20 ≤ 200 }
+    ensures items { line.new.items ≡ line.old.items ++ decimal n }
+    ensures len { array_vec_len line.new ≤ array_vec_len line.old + 20 }
+{
+    let mut buffer = Buffer::new();
+    add(line, buffer.format(n).as_bytes());
+}
+
+fn add_name(line: &mut Line, script: &Script<'_>, name: Named)
+    requires { array_vec_len line.old + 32 ≤ 200 }
+    ensures items { line.new.items ≡ line.old.items ++ spec.name_text script.now.names name }
+    ensures len { array_vec_len line.new ≤ array_vec_len line.old + 32 }
+{
+    match name {
+        Named::Screen(number) => add_number(line, number as u64),
+        Named::Bitmap(number) => add(line, script.name(number)),
+    }
+}
+
+fn add_format(line: &mut Line, format: Format)
+    requires { array_vec_len line.old + 3 ≤ 200 }
+    ensures items { line.new.items ≡ line.old.items ++ spec.format_text format }
+    ensures len { array_vec_len line.new ≤ array_vec_len line.old + 3 }
+{
+    match format {
+        Format::B1 => add(line, b"1"),
+        Format::B4 => add(line, b"4"),
+        Format::B8 => add(line, b"8"),
+        Format::B555 => add(line, b"555"),
+        Format::B565 => add(line, b"565"),
+        Format::B24 => add(line, b"24"),
+        Format::B32 => add(line, b"32"),
+    }
+}
+
+/// The last line of a run.
+pub fn end_line(count: u64) -> Line
+    ensures { result.items ≡ spec.end_text count }
+{
+    let mut line = Line::new();
+    add(&mut line, b"end ");
+    add_number(&mut line, count);
+    add(&mut line, b"\n");
+    line
+}
+
+/// The first line of a dump.
+pub fn head_line(script: &Script<'_>, name: Named, size: Size, format: Format) -> Line
+    ensures { result.items ≡ spec.head_text script.now.names name size format }
+{
+    let mut line = Line::new();
+    add(&mut line, b"dump ");
+    add_name(&mut line, script, name);
+    add(&mut line, b" ");
+    add_number(&mut line, size.w as u64);
+    add(&mut line, b" ");
+    add_number(&mut line, size.h as u64);
+    add(&mut line, b" ");
+    add_format(&mut line, format);
+    add(&mut line, b"\n");
+    line
+}
+
+/// The line of a sum.
+pub fn sum_line(script: &Script<'_>, name: Named, sum: u64) -> Line
+    ensures { result.items ≡ spec.sum_line_text script.now.names name sum }
+{
+    let mut digits = [0u8; 16];
+    put_hex(&mut digits, sum);
+    let mut line = Line::new();
+    add(&mut line, b"sum ");
+    add_name(&mut line, script, name);
+    add(&mut line, b" ");
+    add(&mut line, &digits);
+    add(&mut line, b"\n");
+    line
+}
+
+/// The line of a report that memory was wanting for a command, with nothing drawn.
+pub fn wanting_line(script: &Script<'_>, number: u64, name: Named) -> Line
+    ensures { result.items ≡ spec.report_text script.now.names number (record { target = name; cause = memory; rects = [] }) }
+{
+    let mut line = Line::new();
+    add(&mut line, b"command ");
+    add_number(&mut line, number);
+    add(&mut line, b" memory ");
+    add_name(&mut line, script, name);
+    add(&mut line, b" ");
+    add_number(&mut line, 0);
+    add(&mut line, b"\n");
+    line
+}
+
+fn refusal_line(refusal: InputRefusal) -> Line
+    ensures { result.items ≡ spec.refusal_text refusal }
+{
+    let mut line = Line::new();
+    add(&mut line, b"refused ");
+    match refusal {
+        InputRefusal::Size => add(&mut line, b"input size"),
+        InputRefusal::Config { number } => {
+            add(&mut line, b"config ");
+            add_number(&mut line, number as u64);
+        }
+        InputRefusal::Script {
+            line: place,
+            number,
+        } => {
+            add(&mut line, b"script ");
+            add_number(&mut line, place);
+            add(&mut line, b" ");
+            add_number(&mut line, number as u64);
+        }
+    }
+    add(&mut line, b"\n");
+    line
+}
+
+/// The line of a status under which nothing is drawn; empty for the others.
+pub fn plain_line(status: Status) -> Line
+    ensures { result.items ≡ spec.plain_text status }
+{
+    match status {
+        Status::Usage => usage_line(),
+        Status::InputRefused(refusal) => refusal_line(refusal),
+        _ => Line::new(),
+    }
+}
+
+fn usage_line() -> Line
+    ensures { result.items ≡ codes "usage\n" }
+{
+    let mut line = Line::new();
+    add(&mut line, b"usage\n");
+    line
+}
