@@ -18,6 +18,7 @@ pub fn move_bytes(bits: &mut [u8], at: usize, first: usize, len: usize)
     requires room { at + len ≤ length bits.old }
     requires there { first + len ≤ length bits.old }
     ensures values { (k : ℕ) → k < len → slice_index bits.new (at + k) ≡ slice_index bits.old (first + k) }
+    ensures items { (k : ℕ) → slice_index bits.old k < 256 }
     ensures bytes { ChangesOnly at (at + len) bits.old bits.new }
 {
     bits.copy_within(first..first + len, at);

@@ -1,6 +1,6 @@
 //! A surface on bits that were lent to be drawn on.
 
-ghost use Rattle.std.specs.Prelude.{◌≡◌, ◌≤◌, ◌<◌, ◌+◌, ◌-◌, ◌*◌, ◌/◌, ◌%◌, ◌^◌, ◌+ℤ◌, pos, length, slice_set, slice_index, slice_range, EachIndex, All, IfOk, IfErr, unsigned_abs};
+ghost use Rattle.std.specs.Prelude.{◌≡◌, ◌≤◌, ◌<◌, ◌+◌, ◌-◌, ◌*◌, ◌/◌, ◌%◌, ◌^◌, ◌+ℤ◌, ℕ, pos, length, slice_set, slice_index, slice_range, EachIndex, All, IfOk, IfErr, unsigned_abs};
 ghost use Rattle.geom_base.specs.Points.{is_in, IsIn, LiesIn};
 ghost use Rattle.pix_format.specs.Value.{bits_of};
 ghost use Rattle.surf_obj.specs.Layout.{layout_from, row_bytes, row_start, rows_start, delta_of, HasSides};
@@ -354,6 +354,7 @@ impl LentSurf<'_> {
         requires source_row { from_y < (view_size source.now).h }
         requires bit { x * bits_of (format_of self.old) % 8 ≡ from_x * bits_of (format_of self.old) % 8 }
         ensures values { values_of self.new ≡ redrawn (size_of self.old) (values_of self.old) (λ p. is_in p (box_of x y (x + len) (y + 1))) (copied (view_size source.now) (view_values source.now) from_x from_y x) }
+        ensures fit { (k : ℕ) → k < len → value_at (view_size source.now) (view_values source.now) (from_x + k) from_y < 2 ^ bits_of (format_of self.old) }
         ensures only { OnlyPixels self.old self.new }
     {
         let (from, to) = whole_part(self.format, x, len);
@@ -428,6 +429,7 @@ impl LentSurf<'_> {
         requires source_row { from_y < (size_of self.old).h }
         requires whole { bits_of (format_of self.old) % 8 ≡ 0 }
         ensures values { values_of self.new ≡ redrawn (size_of self.old) (values_of self.old) (λ p. is_in p (box_of x y (x + len) (y + 1))) (copied (size_of self.old) (values_of self.old) from_x from_y x) }
+        ensures fit { (k : ℕ) → k < len → value_at (size_of self.old) (values_of self.old) (from_x + k) from_y < 2 ^ bits_of (format_of self.old) }
         ensures only { OnlyPixels self.old self.new }
     {
         let at = self.place(x as usize, y);

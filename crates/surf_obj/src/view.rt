@@ -26,6 +26,7 @@ pub struct LentView<'a> {
     ghost rows: { size.h * stride ≤ length bits.now },
     ghost columns: { row_bytes format size.w ≤ stride },
     ghost sides: { HasSides size },
+    ghost items: { (k : ℕ) → slice_index bits.now k < 256 },
 }
 
 impl<'a> LentView<'a> {

@@ -1,6 +1,7 @@
 use Rattle.std.proofs.Common.{◌≡◌, ◌+◌, ◌*◌, ◌%◌, ◌-◌, ℕ, refl, arith, add-zero, length}
 use Rattle.pix_format.specs.Value.{bits_of}
 use Rattle.surf_obj.specs.Lent.{layout_of}
+use Rattle.surf_obj.proofs.LayoutLemmas.{values_in-fit}
 use Rattle.surf_obj.proofs.PartLemmas.{part-room, part-bytes, part-copied, part-padding, whole-bytes}
 use Rattle.surf_obj.proofs.lent.LentSurf.move_run.Goals as goal
 
@@ -35,3 +36,8 @@ returns-clause-only c =
       padding = part-padding (layout_of old) old.bits.now c.move_bytes.new.bits c.args.x c.args.y 0 c.args.len c.place-at.result old.columns (whole-bytes old.format (c.args.x + 0) c.requires.whole) (omega arith) (whole-bytes old.format (c.args.len - 0) c.requires.whole)
           c.requires.columns c.requires.row (rw add-zero c.place-at.ensures) (part-bytes old.format (c.args.len - 0) c.place-at.result _ old.bits.now c.move_bytes.new.bits (whole-bytes old.format (c.args.len - 0) c.requires.whole) (rw (no_less c.args.len, c.bits_of.ensures.bits) refl) c.move_bytes.ensures.bytes);
     }
+
+pub returns-clause-fit : goal.returns-clause-fit
+returns-clause-fit c k lt =
+    let old = c.args.self.now in
+    values_in-fit (layout_of old) old.bits.now (c.args.from_x + k) c.args.from_y (omega (arith, lt, c.requires.source_columns)) c.requires.source_row c.move_bytes.ensures.items
