@@ -4,11 +4,14 @@ ghost use Rattle.std.specs.Prelude.{◌≡◌, ◌≤◌, ◌+◌, IsTrue, IfSom
 ghost use Rattle.surf_obj.specs.Lent.{size_of, format_of};
 ghost use Rattle.blt_kernel.specs.Fills.{FillsWith, takes_pattern_alone};
 ghost use Rattle.blt_kernel.specs.Order.{KeepsSource};
+ghost use Rattle.blt_kernel.specs.Ways.{IsWayOf};
 ghost use Rattle.blt_kernel.specs.Drawing.{CanDraw, IsDrawn, GivesRun};
 
+use crate::edges::Edges;
 use crate::ink::Ink;
 use crate::mask::Mask;
 use crate::source::{Source, read_source};
+use crate::way::Way;
 use pix_format::Format;
 use rop_mix::{Rop4, apply_fill, apply_masked, apply_row, apply_solid, rop3};
 use surf_obj::LentSurf;
@@ -22,7 +25,7 @@ pub struct Drawing<'a> {
     pub ink: Ink<'a>,
 }
 
-impl Drawing<'_> {
+impl<'a> Drawing<'a> {
     /// The order in which each point of the target is read before it is drawn: from the top and from the left, or else from the
     /// bottom and from the right.
     pub fn is_forward(&self) -> bool
@@ -44,6 +47,25 @@ impl Drawing<'_> {
         let values = &mut values[..len];
         self.combine(dst, x, y, values);
         dst.write_run(x, y, values);
+    }
+
+    /// How it goes along the rows of a box.
+    pub fn way(&self, dst: &LentSurf<'_>, edges: &Edges) -> Way<'a>
+        requires across { edges.now.left ≤ edges.now.right }
+        requires able { CanDraw self.now (size_of dst.now) (format_of dst.now) edges.now.left edges.now.top edges.now.right edges.now.bottom }
+        ensures { IsWayOf self.now (format_of dst.now) edges.now.left result }
+    {
+        if let Some(value) = self.fill_value(dst.format()) {
+            return Way::Fill(value);
+        }
+        match (self.mask, self.source) {
+            (None, Some(source))
+                if self.rop.clear_code() == 0xcc && source.has_its_bytes(dst, edges) =>
+            {
+                Way::Copy(source)
+            }
+            _ => Way::Combine,
+        }
     }
 
     /// The value that all pixels get, where it is the same whatever the source and the old values.
