@@ -37,13 +37,13 @@ impl<'a> Drawing<'a> {
         }
     }
 
-    /// Draws a run of at most 256 pixels.
+    /// Draws a run of at most 512 pixels.
     pub fn draw_run(&self, dst: &mut LentSurf<'_>, x: u32, y: u32, len: usize)
-        requires short { len ≤ 256 }
+        requires short { len ≤ 512 }
         requires able { CanDraw self.now (size_of dst.old) (format_of dst.old) x y (x + len) (y + 1) }
         ensures { IsDrawn self.now x y (x + len) (y + 1) dst.old dst.new }
     {
-        let mut values = [0; 256];
+        let mut values = [0; 512];
         let values = &mut values[..len];
         self.combine(dst, x, y, values);
         dst.write_run(x, y, values);
@@ -83,7 +83,7 @@ impl<'a> Drawing<'a> {
 
     /// The new values of a run.
     fn combine(&self, dst: &LentSurf<'_>, x: u32, y: u32, values: &mut [u32])
-        requires short { length values.old ≤ 256 }
+        requires short { length values.old ≤ 512 }
         requires able { CanDraw self.now (size_of dst.now) (format_of dst.now) x y (x + length values.old) (y + 1) }
         ensures { GivesRun self.now dst.now x y values.new }
     {
@@ -103,19 +103,19 @@ impl<'a> Drawing<'a> {
         values: &mut [u32],
     )
         requires mask { self.now.mask ≡ Some mask.now }
-        requires short { length values.old ≤ 256 }
+        requires short { length values.old ≤ 512 }
         requires able { CanDraw self.now (size_of dst.now) (format_of dst.now) x y (x + length values.old) (y + 1) }
         ensures { GivesRun self.now dst.now x y values.new }
     {
         let len = values.len();
         let format = dst.format();
-        let mut pattern = [0; 256];
+        let mut pattern = [0; 512];
         let pattern = &mut pattern[..len];
         self.ink.fill_run(format, x, y, pattern);
-        let mut source = [0; 256];
+        let mut source = [0; 512];
         let source = &mut source[..len];
         read_source(&self.source, dst, x, y, source);
-        let mut bits = [0; 256];
+        let mut bits = [0; 512];
         let bits = &mut bits[..len];
         mask.read_run(x, y, bits);
         dst.read_run(x, y, values);
@@ -125,7 +125,7 @@ impl<'a> Drawing<'a> {
     /// The new values of a run by one code.
     fn combine_unmasked(&self, dst: &LentSurf<'_>, x: u32, y: u32, values: &mut [u32])
         requires mask { self.now.mask ≡ None }
-        requires short { length values.old ≤ 256 }
+        requires short { length values.old ≤ 512 }
         requires able { CanDraw self.now (size_of dst.now) (format_of dst.now) x y (x + length values.old) (y + 1) }
         ensures { GivesRun self.now dst.now x y values.new }
     {
@@ -139,7 +139,7 @@ impl<'a> Drawing<'a> {
     fn combine_pattern(&self, dst: &LentSurf<'_>, x: u32, y: u32, values: &mut [u32])
         requires mask { self.now.mask ≡ None }
         requires source { self.now.source ≡ None }
-        requires short { length values.old ≤ 256 }
+        requires short { length values.old ≤ 512 }
         requires able { CanDraw self.now (size_of dst.now) (format_of dst.now) x y (x + length values.old) (y + 1) }
         ensures { GivesRun self.now dst.now x y values.new }
     {
@@ -150,10 +150,10 @@ impl<'a> Drawing<'a> {
             apply_fill(code, value, values, format.bits());
             return;
         }
-        let mut pattern = [0; 256];
+        let mut pattern = [0; 512];
         let pattern = &mut pattern[..values.len()];
         self.ink.fill_run(format, x, y, pattern);
-        let mut source = [0; 256];
+        let mut source = [0; 512];
         let source = &mut source[..values.len()];
         read_source(&self.source, dst, x, y, source);
         apply_row(code, pattern, source, values, format.bits());
@@ -170,7 +170,7 @@ impl<'a> Drawing<'a> {
     )
         requires mask { self.now.mask ≡ None }
         requires source { self.now.source ≡ Some source.now }
-        requires short { length values.old ≤ 256 }
+        requires short { length values.old ≤ 512 }
         requires able { CanDraw self.now (size_of dst.now) (format_of dst.now) x y (x + length values.old) (y + 1) }
         ensures { GivesRun self.now dst.now x y values.new }
     {
@@ -181,7 +181,7 @@ impl<'a> Drawing<'a> {
         }
         let len = values.len();
         let format = dst.format();
-        let mut own = [0; 256];
+        let mut own = [0; 512];
         let own = &mut own[..len];
         source.read_run(dst, x, y, own);
         dst.read_run(x, y, values);
@@ -189,7 +189,7 @@ impl<'a> Drawing<'a> {
             apply_solid(code, value, own, values, format.bits());
             return;
         }
-        let mut pattern = [0; 256];
+        let mut pattern = [0; 512];
         let pattern = &mut pattern[..len];
         self.ink.fill_run(format, x, y, pattern);
         apply_row(code, pattern, own, values, format.bits());

@@ -12,7 +12,7 @@ use crate::way::Way;
 use surf_obj::LentSurf;
 
 /// The most pixels that are drawn at once.
-const RUN: u32 = 256;
+const RUN: u32 = 512;
 
 /// Draws in a box, its rows from the top and from the left, or from the bottom and from the right.
 pub fn draw_box(drawing: &Drawing<'_>, dst: &mut LentSurf<'_>, edges: &Edges, forward: bool)

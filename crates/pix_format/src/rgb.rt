@@ -23,10 +23,11 @@ impl Rgb {
     }
 }
 
+/// The square of the difference of two channels. It fits 16 bits, which makes loops over tables fast.
 fn squared_difference(a: u8, b: u8) -> u32
     ensures value { result ≡ squared_difference a b }
     ensures small { result ≤ 65025 }
 {
-    let difference = u32::from(a.abs_diff(b));
-    difference * difference
+    let difference = u16::from(a.abs_diff(b));
+    u32::from(difference * difference)
 }
