@@ -60,8 +60,7 @@ impl<'a> Drawing<'a> {
         }
         match (self.mask, self.source) {
             (None, Some(source))
-                if self.rop.clear_code() == 0xcc && source.has_its_bytes(dst, edges) =>
-            {
+                if self.rop.clear_code() == 0xcc && source.has_its_bytes(dst, edges) => {
                 Way::Copy(source)
             }
             _ => Way::Combine,

@@ -130,12 +130,7 @@ fn copy(
 }
 
 /// A copy of the target within itself, one pixel down and to the right.
-fn move_within(
-    alloc: Global,
-    format: Format,
-    bits: &mut [u8],
-    count: u32,
-) -> Result<(), AllocError>
+fn move_within(alloc: Global, format: Format, bits: &mut [u8], count: u32) -> Result<(), AllocError>
     requires { 98304 * bits_of format ≤ length bits.old }
 {
     let table = ColourTable::standard(alloc, format)?;

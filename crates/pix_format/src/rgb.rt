@@ -12,6 +12,14 @@ pub struct Rgb {
 }
 
 impl Rgb {
+    /// The part of the distance that red alone makes.
+    pub(crate) fn red_distance(self, other: Rgb) -> u32
+        ensures value { result ≡ squared_difference self.r other.r }
+        ensures small { result ≤ 65025 }
+    {
+        squared_difference(self.r, other.r)
+    }
+
     /// How far apart two colours are: the sum of the squared differences of their channels.
     pub(crate) fn distance(self, other: Rgb) -> u32
         ensures value { result ≡ distance self other }

@@ -1,6 +1,5 @@
-use Rattle.std.proofs.Common.{◌≡◌, ◌∙◌, sym, ap, ℕ, List, get_or}
+use Rattle.std.proofs.Common.{◌∙◌, ap}
 use Rattle.pix_format.specs.Colour.{nearest}
-use Rattle.pix_format.specs.Packing.{unpacked888}
 use Rattle.pix_format.proofs.TableLemmas.{kept_more}
 use Rattle.pix_format.proofs.row.index_of.Goals.{then-asked-place, else-asked-place}
 use Rattle.pix_format.proofs.row.index_of.Goals as goal

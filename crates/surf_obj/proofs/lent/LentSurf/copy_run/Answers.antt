@@ -1,4 +1,4 @@
-use Rattle.std.proofs.Common.{◌∙◌, arith, ◌≡◌, ◌+◌, ◌*◌, ◌%◌}
+use Rattle.std.proofs.Common.{◌∙◌, arith, ◌+◌}
 use Rattle.surf_obj.specs.Lent.{size_of, values_of, format_of}
 use Rattle.surf_obj.specs.Runs.{copied}
 use Rattle.surf_obj.specs.View.{view_layout, view_size, view_values}

@@ -1,5 +1,4 @@
-use Rattle.std.proofs.Common.{◌≡◌, ◌+◌, ◌*◌, ◌%◌, ◌-◌, ℕ, refl, arith, add-zero, length}
-use Rattle.pix_format.specs.Value.{bits_of}
+use Rattle.std.proofs.Common.{◌≡◌, ◌+◌, ◌-◌, ℕ, refl, arith, add-zero, length}
 use Rattle.surf_obj.specs.Lent.{layout_of}
 use Rattle.surf_obj.proofs.LayoutLemmas.{values_in-fit}
 use Rattle.surf_obj.proofs.PartLemmas.{part-room, part-bytes, part-copied, part-padding, whole-bytes}
