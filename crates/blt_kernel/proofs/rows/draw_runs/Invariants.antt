@@ -4,7 +4,7 @@ use Rattle.surf_obj.specs.Lent.{values_of, size_of, format_of, OnlyPixels}
 use Rattle.surf_obj.specs.Surface.{redrawn}
 use Rattle.blt_kernel.specs.Drawing.{drawn}
 use Rattle.blt_kernel.specs.Order.{columns_done}
-use Rattle.blt_kernel.proofs.rows.draw_row.Given as goal
+use Rattle.blt_kernel.proofs.rows.draw_runs.Given as goal
 
 abbrev pub decreases-loop-done : goal.decreases-loop-done
 decreases-loop-done l = l.width - l.done
