@@ -1,14 +1,17 @@
-use Rattle.std.proofs.Common.{◌≡◌, ◌∙◌, ℕ, ℤ, ◌+ℤ◌, ◌-ℤ◌, ◌<ℤ◌, ◌≤ℤ◌, ◌⊎◌, pos, List, [], ◌∷◌, Bool, true, false, ◌||◌, refl, ap, sym, subst, arith, inl, inr, zero, suc}
+use Rattle.std.proofs.Common.{◌≡◌, ◌∙◌, ℕ, ℤ, ◌+ℤ◌, ◌-ℤ◌, ◌<ℤ◌, ◌≤ℤ◌, ◌⊎◌, pos, List, [], ◌∷◌, Bool, true, false, ◌||◌, ◌&&◌, refl, ap, sym, subst, arith, inl, inr, zero, suc}
 use Rattle.std.specs.List.{list_any}
 use Rattle.std.proofs.lemmas.Bool.{false≢true}
 use Rattle.std.proofs.lemmas.Int.{ints}
+use Rattle.std.proofs.lemmas.List.Elements.{All-nil, All-cons, All-append, All-head, All-tail}
 use Rattle.geom_base.specs.declared.point.Point.{Point}
-use Rattle.geom_base.specs.Points.{IsIn}
+use Rattle.geom_base.specs.declared.rect.Rect.{Rect}
+use Rattle.geom_base.specs.Points.{IsIn, is_in, is_in_some}
+use Rattle.geom_base.proofs.PointLemmas.{is_in-IsIn}
 use Rattle.region.specs.declared.step.Step.{Step}
-use Rattle.region.specs.Steps.{value_at, Same}
+use Rattle.region.specs.Steps.{value_at, AllValid, Same}
 use Rattle.region.specs.Columns.{column, HasColumns, Columns, has_column}
-use Rattle.region.specs.Band.{has_point, IsCanonical}
-use Rattle.region.specs.Window.{window, LiesWithin, places_from, edges}
+use Rattle.region.specs.Band.{Bands, has_point, IsCanonical, span_rects, row_rects, rects_of}
+use Rattle.region.specs.Window.{window, LiesWithin, IsEdge, HasEdges, Within, places_from, edges}
 use Rattle.region.specs.Canonical.{point_at, differ, steps_where, columns_of_row, row_changes, bands_of_set}
 use Rattle.region.proofs.StepLemmas.{at_or_before}
 use Rattle.region.proofs.UniqueLemmas.{same_columns}
@@ -170,3 +173,76 @@ bands_have_points set h p =
     let rows : value_at [] (bands_of_set set) p.y ≡ columns_of_row set p.y = subst (λ places. value_at [] (steps_where (row_changes set) (columns_of_row set) places) p.y ≡ columns_of_row set p.y) (sym edges_are)
         (walk_values has_column (row_changes set) (columns_of_row set) (bands_walk set h) [] window.left count (bands_begin set h) (bands_end set h) p.y) in
     ap (λ columns. has_column columns p.x) rows ∙ row_values set h p.y p.x
+
+-- the edges of its rectangles
+
+abbrev AllPlaces : {V : Type 0} → (ℤ → Type 0) → List (Step V) → Type 0
+AllPlaces P [] = Unit {0}
+AllPlaces P (s ∷ steps) = P s.from × AllPlaces P steps
+
+places_here : {V : Type 0} (P : ℤ → Type 0) (changes : ℤ → Bool) (value : ℤ → V) (z : ℤ) (n : ℕ) (b : Bool) → changes z ≡ b → P z → AllPlaces P (walk changes value (z +ℤ pos 1) n) → AllPlaces P (walk changes value z (suc n))
+places_here P changes value z n true e here rest = rw e (here, rest)
+places_here P changes value z n false e here rest = rw e rest
+
+walk_places : {V : Type 0} (P : ℤ → Type 0) (changes : ℤ → Bool) (value : ℤ → V) (z : ℤ) (n : ℕ) → ((y : ℤ) → z ≤ℤ y → y <ℤ (z +ℤ pos n) → P y) → AllPlaces P (walk changes value z n)
+walk_places P changes value z zero all = tt
+walk_places P changes value z (suc n) all = places_here P changes value z n (changes z) refl (all z (omega (arith, ints)) (omega (arith, ints)))
+    (walk_places P changes value (z +ℤ pos 1) n (λ y h k. all y (omega (arith, ints)) (omega (arith, ints))))
+
+place_is_edge : (y : ℤ) → window.left ≤ℤ y → y <ℤ (window.left +ℤ pos count) → IsEdge y
+place_is_edge y h k = record { least = h; greatest = omega (arith, ints, count_is) }
+
+steps_at_edges : {V : Type 0} (changes : ℤ → Bool) (value : ℤ → V) → AllPlaces IsEdge (steps_where changes value edges)
+steps_at_edges changes value = subst (λ places. AllPlaces IsEdge (steps_where changes value places)) (sym edges_are) (walk_places IsEdge changes value window.left count place_is_edge)
+
+span_within : (top bottom : ℤ) (s t : Step Bool) (b : Bool) → s.value ≡ b → IsEdge top → IsEdge bottom → IsEdge s.from → IsEdge t.from → Within (span_rects top bottom s t)
+span_within top bottom s t true e y z u v = rw e (All-cons HasEdges _ [] (record { left = u; top = y; right = v; bottom = z }) (All-nil HasEdges))
+span_within top bottom s t false e y z u v = rw e (All-nil HasEdges)
+
+row_within : (top bottom : ℤ) (steps : List (Step Bool)) → IsEdge top → IsEdge bottom → AllPlaces IsEdge steps → Within (row_rects top bottom steps)
+row_within top bottom [] y z h = All-nil HasEdges
+row_within top bottom (s ∷ []) y z h = All-nil HasEdges
+row_within top bottom (s ∷ t ∷ steps) y z h =
+    All-append HasEdges (span_rects top bottom s t) (row_rects top bottom (t ∷ steps)) (span_within top bottom s t s.value refl y z h.0 h.1.0) (row_within top bottom (t ∷ steps) y z h.1)
+
+bands_within : (bands : Bands) → AllPlaces IsEdge bands → AllValid (AllPlaces IsEdge) bands → Within (rects_of (λ columns. columns) bands)
+bands_within [] h k = All-nil HasEdges
+bands_within (b ∷ []) h k = All-nil HasEdges
+bands_within (b ∷ c ∷ bands) h k =
+    All-append HasEdges (row_rects b.from c.from b.value) (rects_of (λ columns. columns) (c ∷ bands)) (row_within b.from c.from b.value h.0 h.1.0 k.0) (bands_within (c ∷ bands) h.1 k.1)
+
+-- all edges of the rectangles are coordinates of edges
+pub bands_lie_within : (set : Point → Bool) → Within (rects_of (λ columns. columns) (bands_of_set set))
+bands_lie_within set =
+    let columns : (y : ℤ) → AllPlaces IsEdge (columns_of_row set y) = λ y. steps_at_edges (column_changes set y) (row set y) in
+    let rows : AllValid (AllPlaces IsEdge) (bands_of_set set) = subst (λ places. AllValid (AllPlaces IsEdge) (steps_where (row_changes set) (columns_of_row set) places)) (sym edges_are)
+        (walk_valid (AllPlaces IsEdge) (row_changes set) (columns_of_row set) columns window.left count) in
+    bands_within (bands_of_set set) (steps_at_edges (row_changes set) (columns_of_row set)) rows
+
+-- sets within
+
+is_in_all : (p : Point) (r : Rect) → HasEdges r → is_in p r ≡ true → IsIn p window
+is_in_all p r h e =
+    let i : IsIn p r = (is_in-IsIn p r).0 e in
+    record {
+      from_left = omega (arith, ints, i.from_left, h.left.least);
+      to_right = omega (arith, ints, i.to_right, h.right.greatest);
+      from_top = omega (arith, ints, i.from_top, h.top.least);
+      to_bottom = omega (arith, ints, i.to_bottom, h.bottom.greatest);
+    }
+
+pub one_or_other : {P : Type 0} (a b : Bool) → (a || b) ≡ true → (a ≡ true → P) → (b ≡ true → P) → P
+one_or_other true b e left right = left refl
+one_or_other false b e left right = right e
+
+pub first_of_both : (a b : Bool) → (a && b) ≡ true → a ≡ true
+first_of_both true b e = refl
+first_of_both false b e = e
+
+pub one_of_two : {P : Type 0} (a b : Bool) → differ a b ≡ true → (a ≡ true → P) → (b ≡ true → P) → P
+one_of_two true b e left right = left refl
+one_of_two false b e left right = right e
+
+pub some_within : (rects : List Rect) → Within rects → (p : Point) → is_in_some p rects ≡ true → IsIn p window
+some_within [] h p e = absurd (false≢true e)
+some_within (r ∷ rects) h p e = one_or_other (is_in p r) (is_in_some p rects) e (is_in_all p r (All-head HasEdges r rects h)) (some_within rects (All-tail HasEdges r rects h) p)

@@ -1,0 +1,83 @@
+-- Laws of the canonical list of a set.
+use Rattle.std.proofs.Common.{◌≡◌, ◌∙◌, ap, sym, refl, map, List, Bool, ◌&&◌, ◌||◌, Result, Ok, Err, length, ◌<◌, subst, ◌≤◌}
+use Rattle.geom_base.specs.declared.point.Point.{Point}
+use Rattle.geom_base.specs.declared.rect.Rect.{Rect}
+use Rattle.geom_base.specs.Points.{is_in_some, moved_rect}
+use Rattle.region.specs.declared.operation.Operation.{Operation}
+use Rattle.region.specs.declared.operation.Operation.TheVariants.{Union, Intersect, Subtract, Xor}
+use Rattle.region.specs.declared.refusal.RegionRefusal.{RegionRefusal}
+use Rattle.region.specs.declared.refusal.RegionRefusal.TheVariants.{TooMany, NoMemory}
+use Rattle.region.specs.Operation.{holds_after}
+use Rattle.region.specs.Moved.{moved_back}
+use Rattle.region.specs.Region.{IsRegion, IsRegionOf}
+use Rattle.region.specs.Refusal.{IsAnswer}
+use Rattle.region.specs.Window.{LiesWithin, Within}
+use Rattle.region.specs.Canonical.{differ, bands_of_set, canonical_rects, Answers}
+use Rattle.region.proofs.RegionLemmas.{region_of_canonical, region_same, region_is_unique}
+use Rattle.region.proofs.MoveLemmas.{moved_is_in_some}
+use Rattle.region.proofs.CanonicalLemmas.{bands_are_canonical, bands_have_points, bands_lie_within, one_or_other, first_of_both, one_of_two, some_within}
+
+-- the list is the one of the set
+pub canonical_is_region : (set : Point → Bool) → LiesWithin set → IsRegionOf set (canonical_rects set)
+unfolding canonical_rects
+canonical_is_region set h = region_same _ set (bands_have_points set h) (canonical_rects set) (region_of_canonical (bands_of_set set) (bands_are_canonical set h))
+
+-- and there is no other
+pub region_is_canonical : (set : Point → Bool) (rects : List Rect) → LiesWithin set → IsRegionOf set rects → rects ≡ canonical_rects set
+region_is_canonical set rects h r =
+    let own = canonical_is_region set h in
+    region_is_unique rects (canonical_rects set) r.canonical own.canonical (λ p. r.points p ∙ sym (own.points p))
+
+-- its rectangles have the points of the set
+pub canonical_points : (set : Point → Bool) → LiesWithin set → (p : Point) → is_in_some p (canonical_rects set) ≡ set p
+canonical_points set h = (canonical_is_region set h).points
+
+-- their edges are coordinates of edges
+pub canonical_is_within : (set : Point → Bool) → Within (canonical_rects set)
+unfolding canonical_rects
+canonical_is_within set = bands_lie_within set
+
+-- one set has one list
+pub canonical_same : (f g : Point → Bool) → ((p : Point) → f p ≡ g p) → canonical_rects f ≡ canonical_rects g
+canonical_same f g same = λ i. canonical_rects (λ p. same p i)
+
+-- the list of a region's own points is the region
+pub canonical_again : (rects : List Rect) → IsRegion rects → Within rects → canonical_rects (λ p. is_in_some p rects) ≡ rects
+canonical_again rects r h = sym (region_is_canonical (λ p. is_in_some p rects) rects (some_within rects h) (record { canonical = r; points = λ p. refl }))
+
+-- an operation answers this list, or the number of its rectangles where these are too many
+pub answer_is_canonical : (set : Point → Bool) (result : Result (List Rect) RegionRefusal) → LiesWithin set → IsAnswer set result → Answers (canonical_rects set) result
+answer_is_canonical set (Ok rects) h (r, few) =
+    let e : rects ≡ canonical_rects set = region_is_canonical set rects h r in
+    (e, subst (λ list. length list ≤ 4096) e few, subst Within (sym e) (canonical_is_within set))
+answer_is_canonical set (Err (TooMany n)) h (rects, r, number, many) =
+    let e : n ≡ length (canonical_rects set) = number ∙ ap length (region_is_canonical set rects h r) in
+    (e, subst (λ count. 4096 < count) e many)
+answer_is_canonical set (Err NoMemory) h a = tt
+
+-- the points of rectangles lie within where their edges do
+pub rects_lie_within : (rects : List Rect) → Within rects → LiesWithin (λ p. is_in_some p rects)
+rects_lie_within = some_within
+
+-- the points of either set
+pub either_lies_within : (f g : Point → Bool) → LiesWithin f → LiesWithin g → LiesWithin (λ p. f p || g p)
+either_lies_within f g h k p e = one_or_other (f p) (g p) e (h p) (k p)
+
+-- some points of a set
+pub part_lies_within : (f g : Point → Bool) → LiesWithin f → LiesWithin (λ p. f p && g p)
+part_lies_within f g h p e = h p (first_of_both (f p) (g p) e)
+
+-- the points of exactly one
+pub one_lies_within : (f g : Point → Bool) → LiesWithin f → LiesWithin g → LiesWithin (λ p. differ (f p) (g p))
+one_lies_within f g h k p e = one_of_two (f p) (g p) e (h p) (k p)
+
+-- the points after an operation
+pub after_lies_within : (o : Operation) (f g : Point → Bool) → LiesWithin f → LiesWithin g → LiesWithin (λ p. holds_after o (f p) (g p))
+after_lies_within Union f g h k = either_lies_within f g h k
+after_lies_within Intersect f g h k = part_lies_within f g h
+after_lies_within Subtract f g h k = part_lies_within f _ h
+after_lies_within Xor f g h k = one_lies_within f g h k
+
+-- the points moved, where the moved edges are coordinates of edges
+pub moved_lies_within : (by : Point) (rects : List Rect) → Within (map (λ r. moved_rect r by) rects) → LiesWithin (λ p. is_in_some (moved_back by p) rects)
+moved_lies_within by rects h p e = some_within (map (λ r. moved_rect r by) rects) h p (moved_is_in_some p by rects ∙ e)
