@@ -1,5 +1,7 @@
--- Laws of the canonical list of a set.
-use Rattle.std.proofs.Common.{◌≡◌, ◌∙◌, ap, sym, refl, map, List, Bool, ◌&&◌, ◌||◌, Result, Ok, Err, length, ◌<◌, subst, ◌≤◌}
+use Rattle.std.proofs.Common.{◌≡◌, ◌∙◌, ap, sym, refl, map, List, [], ◌∷◌, Bool, ◌&&◌, ◌||◌, Ok, Err, length, ◌<◌, subst, ◌≤◌, ℤ, arith, FitsSigned, w32}
+use Rattle.std.specs.List.{All}
+use Rattle.std.proofs.lemmas.Int.{ints}
+use Rattle.std.proofs.lemmas.List.Elements.{All-nil, All-cons, All-head, All-tail}
 use Rattle.geom_base.specs.declared.point.Point.{Point}
 use Rattle.geom_base.specs.declared.rect.Rect.{Rect}
 use Rattle.geom_base.specs.Points.{is_in_some, moved_rect}
@@ -8,17 +10,17 @@ use Rattle.region.specs.declared.operation.Operation.TheVariants.{Union, Interse
 use Rattle.region.specs.declared.refusal.RegionRefusal.{RegionRefusal}
 use Rattle.region.specs.declared.refusal.RegionRefusal.TheVariants.{TooMany, NoMemory}
 use Rattle.region.specs.Operation.{holds_after}
-use Rattle.region.specs.Moved.{moved_back}
+use Rattle.region.specs.Moved.{CanMove, moved_back}
 use Rattle.region.specs.Region.{IsRegion, IsRegionOf}
 use Rattle.region.specs.Refusal.{IsAnswer}
-use Rattle.region.specs.Window.{LiesWithin, Within}
-use Rattle.region.specs.Canonical.{differ, bands_of_set, canonical_rects, Answers}
+use Rattle.region.specs.Window.{LiesWithin, IsEdge, HasEdges, Within}
+use Rattle.region.specs.Canonical.{differ, bands_of_set, canonical_rects, CanonicalIsOfSet, AnswersAreCanonical}
 use Rattle.region.proofs.RegionLemmas.{region_of_canonical, region_same, region_is_unique}
 use Rattle.region.proofs.MoveLemmas.{moved_is_in_some}
 use Rattle.region.proofs.CanonicalLemmas.{bands_are_canonical, bands_have_points, bands_lie_within, one_or_other, first_of_both, one_of_two, some_within}
 
 -- the list is the one of the set
-pub canonical_is_region : (set : Point → Bool) → LiesWithin set → IsRegionOf set (canonical_rects set)
+pub canonical_is_region : CanonicalIsOfSet
 unfolding canonical_rects
 canonical_is_region set h = region_same _ set (bands_have_points set h) (canonical_rects set) (region_of_canonical (bands_of_set set) (bands_are_canonical set h))
 
@@ -45,8 +47,8 @@ canonical_same f g same = λ i. canonical_rects (λ p. same p i)
 pub canonical_again : (rects : List Rect) → IsRegion rects → Within rects → canonical_rects (λ p. is_in_some p rects) ≡ rects
 canonical_again rects r h = sym (region_is_canonical (λ p. is_in_some p rects) rects (some_within rects h) (record { canonical = r; points = λ p. refl }))
 
--- an operation answers this list, or the number of its rectangles where these are too many
-pub answer_is_canonical : (set : Point → Bool) (result : Result (List Rect) RegionRefusal) → LiesWithin set → IsAnswer set result → Answers (canonical_rects set) result
+-- each answer of an operation gives this list
+pub answer_is_canonical : AnswersAreCanonical
 answer_is_canonical set (Ok rects) h (r, few) =
     let e : rects ≡ canonical_rects set = region_is_canonical set rects h r in
     (e, subst (λ list. length list ≤ 4096) e few, subst Within (sym e) (canonical_is_within set))
@@ -81,3 +83,19 @@ after_lies_within Xor f g h k = one_lies_within f g h k
 -- the points moved, where the moved edges are coordinates of edges
 pub moved_lies_within : (by : Point) (rects : List Rect) → Within (map (λ r. moved_rect r by) rects) → LiesWithin (λ p. is_in_some (moved_back by p) rects)
 moved_lies_within by rects h p e = some_within (map (λ r. moved_rect r by) rects) h p (moved_is_in_some p by rects ∙ e)
+
+-- rectangles that stay within can be moved
+edge_fits : (z : ℤ) → IsEdge z → FitsSigned w32 z
+edge_fits z h = grind (arith, ints, h.least, h.greatest)
+
+can_move : (by : Point) (r : Rect) → HasEdges (moved_rect r by) → CanMove by r
+can_move by r h = record { left = edge_fits _ h.left; top = edge_fits _ h.top; right = edge_fits _ h.right; bottom = edge_fits _ h.bottom }
+
+pub can_all_move : (by : Point) (rects : List Rect) → Within (map (λ r. moved_rect r by) rects) → All (CanMove by) rects
+can_all_move by [] h = All-nil (CanMove by)
+can_all_move by (r ∷ rects) h = All-cons (CanMove by) r rects (can_move by r (All-head HasEdges _ _ h)) (can_all_move by rects (All-tail HasEdges _ _ h))
+
+-- the rectangle at a place stays within
+pub moved_at : (by : Point) (rects : List Rect) → Within (map (λ r. moved_rect r by) rects) → All (λ r. HasEdges (moved_rect r by)) rects
+moved_at by [] h = All-nil (λ r. HasEdges (moved_rect r by))
+moved_at by (r ∷ rects) h = All-cons (λ r. HasEdges (moved_rect r by)) r rects (All-head HasEdges _ _ h) (moved_at by rects (All-tail HasEdges _ _ h))

@@ -8,7 +8,9 @@ use Rattle.region.specs.declared.refusal.RegionRefusal.TheVariants.{TooMany, NoM
 use Rattle.region.specs.declared.step.Step.{Step}
 use Rattle.region.specs.Columns.{Columns}
 use Rattle.region.specs.Band.{Bands, rects_of}
-use Rattle.region.specs.Window.{edges, Within}
+use Rattle.region.specs.Region.{IsRegionOf}
+use Rattle.region.specs.Refusal.{IsAnswer}
+use Rattle.region.specs.Window.{edges, LiesWithin, Within}
 
 abbrev pub point_at : ℤ → ℤ → Point
 point_at x y = record { x = x; y = y }
@@ -37,8 +39,16 @@ bands_of_set set = steps_where (row_changes set) (columns_of_row set) edges
 unfoldable pub canonical_rects : (Point → Bool) → List Rect
 canonical_rects set = rects_of (λ columns. columns) (bands_of_set set)
 
--- the answer is this list, or the number of its rectangles where these are too many; or there was no memory
-abbrev pub Answers : List Rect → Result (List Rect) RegionRefusal → Type 0
-Answers list (Ok rects) = (rects ≡ list) × (length list ≤ 4096) × Within rects
-Answers list (Err (TooMany n)) = (n ≡ length list) × (4096 < length list)
-Answers list (Err NoMemory) = Unit {0}
+-- it is the list of the set
+abbrev pub CanonicalIsOfSet : Type 0
+CanonicalIsOfSet = (set : Point → Bool) → LiesWithin set → IsRegionOf set (canonical_rects set)
+
+-- this list, or the number of its rectangles where these are too many; or there was no memory
+abbrev pub Gives : List Rect → Result (List Rect) RegionRefusal → Type 0
+Gives list (Ok rects) = (rects ≡ list) × (length list ≤ 4096) × Within rects
+Gives list (Err (TooMany n)) = (n ≡ length list) × (4096 < length list)
+Gives list (Err NoMemory) = Unit {0}
+
+-- each answer of an operation gives it
+abbrev pub AnswersAreCanonical : Type 0
+AnswersAreCanonical = (set : Point → Bool) (result : Result (List Rect) RegionRefusal) → LiesWithin set → IsAnswer set result → Gives (canonical_rects set) result
