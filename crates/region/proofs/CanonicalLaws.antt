@@ -1,4 +1,4 @@
-use Rattle.std.proofs.Common.{◌≡◌, ◌∙◌, ap, sym, refl, map, List, [], ◌∷◌, Bool, ◌&&◌, ◌||◌, Ok, Err, length, ◌<◌, subst, ◌≤◌, ℤ, arith, FitsSigned, w32}
+use Rattle.std.proofs.Common.{◌≡◌, ◌∙◌, ap, sym, refl, map, List, [], ◌∷◌, Bool, ◌&&◌, ◌||◌, Result, Ok, Err, length, ◌<◌, subst, ◌≤◌, ℤ, arith, FitsSigned, w32}
 use Rattle.std.specs.List.{All}
 use Rattle.std.proofs.lemmas.Int.{ints}
 use Rattle.std.proofs.lemmas.List.Elements.{All-nil, All-cons, All-head, All-tail}
@@ -14,7 +14,7 @@ use Rattle.region.specs.Moved.{CanMove, moved_back}
 use Rattle.region.specs.Region.{IsRegion, IsRegionOf}
 use Rattle.region.specs.Refusal.{IsAnswer}
 use Rattle.region.specs.Window.{LiesWithin, IsEdge, HasEdges, Within}
-use Rattle.region.specs.Canonical.{differ, bands_of_set, canonical_rects, CanonicalIsOfSet, AnswersAreCanonical}
+use Rattle.region.specs.Canonical.{differ, bands_of_set, canonical_rects, CanonicalIsOfSet, Gives, AnswersAreCanonical}
 use Rattle.region.proofs.RegionLemmas.{region_of_canonical, region_same, region_is_unique}
 use Rattle.region.proofs.MoveLemmas.{moved_is_in_some}
 use Rattle.region.proofs.CanonicalLemmas.{bands_are_canonical, bands_have_points, bands_lie_within, one_or_other, first_of_both, one_of_two, some_within}
@@ -83,6 +83,21 @@ after_lies_within Xor f g h k = one_lies_within f g h k
 -- the points moved, where the moved edges are coordinates of edges
 pub moved_lies_within : (by : Point) (rects : List Rect) → Within (map (λ r. moved_rect r by) rects) → LiesWithin (λ p. is_in_some (moved_back by p) rects)
 moved_lies_within by rects h p e = some_within (map (λ r. moved_rect r by) rects) h p (moved_is_in_some p by rects ∙ e)
+
+-- what a region of rectangles gives
+pub listed_is_canonical : (rects : List Rect) (result : Result (List Rect) RegionRefusal) → Within rects → IsAnswer (λ p. is_in_some p rects) result → Gives (canonical_rects (λ p. is_in_some p rects)) result
+listed_is_canonical rects result h a = answer_is_canonical _ result (rects_lie_within rects h) a
+
+-- what an operation on two regions gives
+pub operation_is_canonical : (o : Operation) (a b : List Rect) (result : Result (List Rect) RegionRefusal) → Within a → Within b → IsAnswer (λ p. holds_after o (is_in_some p a) (is_in_some p b)) result →
+    Gives (canonical_rects (λ p. holds_after o (is_in_some p a) (is_in_some p b))) result
+operation_is_canonical o a b result h k answer =
+    answer_is_canonical (λ p. holds_after o (is_in_some p a) (is_in_some p b)) result (after_lies_within o (λ p. is_in_some p a) (λ p. is_in_some p b) (rects_lie_within a h) (rects_lie_within b k)) answer
+
+-- what a region moved gives
+pub moved_is_canonical : (by : Point) (rects : List Rect) (result : Result (List Rect) RegionRefusal) → Within (map (λ r. moved_rect r by) rects) → IsAnswer (λ p. is_in_some (moved_back by p) rects) result →
+    Gives (canonical_rects (λ p. is_in_some (moved_back by p) rects)) result
+moved_is_canonical by rects result h a = answer_is_canonical (λ p. is_in_some (moved_back by p) rects) result (moved_lies_within by rects h) a
 
 -- rectangles that stay within can be moved
 edge_fits : (z : ℤ) → IsEdge z → FitsSigned w32 z

@@ -1,4 +1,4 @@
-use Rattle.std.proofs.Common.{◌≡◌, ◌∙◌, ℕ, ℤ, ◌+ℤ◌, ◌-ℤ◌, ◌<ℤ◌, ◌≤ℤ◌, ◌⊎◌, pos, List, [], ◌∷◌, Bool, true, false, ◌||◌, ◌&&◌, refl, ap, sym, subst, arith, inl, inr, zero, suc}
+use Rattle.std.proofs.Common.{◌≡◌, ◌∙◌, ℕ, ℤ, ◌+ℤ◌, ◌-ℤ◌, ◌<ℤ◌, ◌≤ℤ◌, pos, List, [], ◌∷◌, Bool, true, false, ◌||◌, ◌&&◌, refl, ap, sym, subst, arith, inl, inr, zero, suc}
 use Rattle.std.specs.List.{list_any}
 use Rattle.std.proofs.lemmas.Bool.{false≢true}
 use Rattle.std.proofs.lemmas.Int.{ints}
@@ -9,7 +9,7 @@ use Rattle.geom_base.specs.Points.{IsIn, is_in, is_in_some}
 use Rattle.geom_base.proofs.PointLemmas.{is_in-IsIn}
 use Rattle.region.specs.declared.step.Step.{Step}
 use Rattle.region.specs.Steps.{value_at, AllValid, Same}
-use Rattle.region.specs.Columns.{column, HasColumns, Columns, has_column}
+use Rattle.region.specs.Columns.{column, HasColumns, has_column}
 use Rattle.region.specs.Band.{Bands, has_point, IsCanonical, span_rects, row_rects, rects_of}
 use Rattle.region.specs.Window.{window, LiesWithin, IsEdge, HasEdges, Within, places_from, edges}
 use Rattle.region.specs.Canonical.{point_at, differ, steps_where, columns_of_row, row_changes, bands_of_set}
@@ -171,7 +171,7 @@ bands_are_canonical set h =
 pub bands_have_points : (set : Point → Bool) → LiesWithin set → (p : Point) → has_point (bands_of_set set) p ≡ set p
 bands_have_points set h p =
     let rows : value_at [] (bands_of_set set) p.y ≡ columns_of_row set p.y = subst (λ places. value_at [] (steps_where (row_changes set) (columns_of_row set) places) p.y ≡ columns_of_row set p.y) (sym edges_are)
-        (walk_values has_column (row_changes set) (columns_of_row set) (bands_walk set h) [] window.left count (bands_begin set h) (bands_end set h) p.y) in
+    (walk_values has_column (row_changes set) (columns_of_row set) (bands_walk set h) [] window.left count (bands_begin set h) (bands_end set h) p.y) in
     ap (λ columns. has_column columns p.x) rows ∙ row_values set h p.y p.x
 
 -- the edges of its rectangles
@@ -216,7 +216,7 @@ pub bands_lie_within : (set : Point → Bool) → Within (rects_of (λ columns. 
 bands_lie_within set =
     let columns : (y : ℤ) → AllPlaces IsEdge (columns_of_row set y) = λ y. steps_at_edges (column_changes set y) (row set y) in
     let rows : AllValid (AllPlaces IsEdge) (bands_of_set set) = subst (λ places. AllValid (AllPlaces IsEdge) (steps_where (row_changes set) (columns_of_row set) places)) (sym edges_are)
-        (walk_valid (AllPlaces IsEdge) (row_changes set) (columns_of_row set) columns window.left count) in
+    (walk_valid (AllPlaces IsEdge) (row_changes set) (columns_of_row set) columns window.left count) in
     bands_within (bands_of_set set) (steps_at_edges (row_changes set) (columns_of_row set)) rows
 
 -- sets within

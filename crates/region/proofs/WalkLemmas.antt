@@ -1,10 +1,10 @@
-use Rattle.std.proofs.Common.{◌≡◌, ◌∙◌, ℕ, ℤ, ◌+ℤ◌, ◌-ℤ◌, ◌<ℤ◌, ◌≤ℤ◌, pos, List, [], ◌∷◌, Bool, true, false, refl, ap, sym, subst, arith, inl, inr, zero, suc, cond, map, int_lt}
+use Rattle.std.proofs.Common.{◌≡◌, ◌∙◌, ℕ, ℤ, ◌+ℤ◌, ◌-ℤ◌, ◌<ℤ◌, ◌≤ℤ◌, pos, List, [], ◌∷◌, Bool, true, false, refl, ap, sym, subst, arith, inl, inr, zero, suc}
 use Rattle.std.proofs.lemmas.Int.{ints}
 use Rattle.region.specs.declared.step.Step.{Step}
 use Rattle.region.specs.Steps.{value_at, final_value, BeginsAfter, BeginsFrom, AllValid, Same, IsReduced}
 use Rattle.region.specs.Window.{places_from}
 use Rattle.region.specs.Canonical.{steps_where}
-use Rattle.region.proofs.StepLemmas.{lt_is, ge_is, at_or_before, value_at-before, BeginsAfter-earlier}
+use Rattle.region.proofs.StepLemmas.{ge_is, at_or_before, value_at-before, BeginsAfter-earlier}
 
 -- the places where a function changes
 pub record Changes {V : Type 0} (holds : V → ℤ → Bool) (changes : ℤ → Bool) (value : ℤ → V) : Type 0 where

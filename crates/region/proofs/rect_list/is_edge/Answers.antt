@@ -1,6 +1,5 @@
-use Rattle.std.proofs.Common.{◌≡◌, ◌↔◌, ◌+ℤ◌, ℤ, IsTrue, Bool, arith, w64, int_le, pos}
+use Rattle.std.proofs.Common.{arith}
 use Rattle.std.proofs.lemmas.Int.{ints, to_z-of_z}
-use Rattle.region.specs.Window.{IsEdge}
 use Rattle.region.proofs.rect_list.is_edge.Goals as goal
 
 pub returns-then-moved-ge-LEAST_EDGE : goal.returns-then-moved-ge-LEAST_EDGE

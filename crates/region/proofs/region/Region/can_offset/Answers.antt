@@ -1,4 +1,4 @@
-use Rattle.std.proofs.Common.{◌≡◌, ◌∙◌, ◌↔◌, subst, sym, map, List, IsTrue}
+use Rattle.std.proofs.Common.{◌≡◌, ◌↔◌, subst, map, List, IsTrue}
 use Rattle.geom_base.specs.declared.rect.Rect.{Rect}
 use Rattle.geom_base.specs.Points.{moved_rect}
 use Rattle.region.specs.Window.{Within}
