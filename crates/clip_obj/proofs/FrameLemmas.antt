@@ -58,7 +58,7 @@ one_within : (outer r : Rect) → HasPoints r → ((p : Point) → is_in p r ≡
 one_within outer r h inside =
     let a : IsIn (record { x = r.left; y = r.top }) outer = (is_in-IsIn (record { x = r.left; y = r.top }) outer).0 (inside (record { x = r.left; y = r.top }) (first_point r h)) in
     let b : IsIn (record { x = r.right -ℤ pos 1; y = r.bottom -ℤ pos 1 }) outer = (is_in-IsIn (record { x = r.right -ℤ pos 1; y = r.bottom -ℤ pos 1 }) outer).0 (inside (record { x = r.right -ℤ pos 1; y = r.bottom -ℤ pos 1 }) (last_point r h)) in
-    record { left = a.from_left; right = omega (arith, ints, b.to_right); top = a.from_top; bottom = omega (arith, ints, b.to_bottom) }
+    record { left = a.from_left; across = omega (arith, ints, h.0); right = omega (arith, ints, b.to_right); top = a.from_top; down = omega (arith, ints, h.1); bottom = omega (arith, ints, b.to_bottom) }
 
 or_first : (a b : Bool) → a ≡ true → (a || b) ≡ true
 or_first true b e = refl

@@ -23,9 +23,11 @@ pub record IsClipOf (region : Option (Bor (List Rect))) (frame : Rect) (c : Clip
   pub rects : IsRegionOf (λ p. allows region p && is_in p frame) c.rects
   pub left : c.left ≡ c.rects
 
--- no edge of a rectangle is outside another
+-- a rectangle lies within another
 pub record LiesWithin (outer r : Rect) : Type 0 where
   pub left : outer.left ≤ℤ r.left
+  pub across : r.left ≤ℤ r.right
   pub right : r.right ≤ℤ outer.right
   pub top : outer.top ≤ℤ r.top
+  pub down : r.top ≤ℤ r.bottom
   pub bottom : r.bottom ≤ℤ outer.bottom

@@ -54,7 +54,8 @@ impl ClipObj {
         region: Option<&Region>,
         bounds: Rect,
     ) -> Result<ClipObj, AllocError>
-        ensures { IfOk result (IsClipOf region.entry bounds) }
+        ensures clip { IfOk result (IsClipOf region.entry bounds) }
+        ensures inside { IfOk result (λ c. All (LiesWithin bounds) c.rects) }
     {
         let rects = clipped_rects(alloc, region, &bounds)?;
         let from_right = turned_rects(alloc, &rects)?;

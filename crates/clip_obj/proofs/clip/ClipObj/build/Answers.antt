@@ -12,3 +12,6 @@ invariant_of-result c = (
   c.in_ok-from_right.ensures ∙ ap turned c.deref.ensures.value,
   omega arith,
 )
+
+pub returns-clause-inside : goal.returns-clause-inside
+returns-clause-inside c = all_within c.args.bounds (allows c.args.region) c.in_ok-rects.rects.items (region_in_order c.in_ok-rects.rects.items c.in_ok-rects.ensures.canonical).points c.in_ok-rects.ensures
