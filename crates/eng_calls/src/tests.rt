@@ -87,7 +87,9 @@ fn byte_at(bytes: &[u8; 64], x: i32, y: i32) -> Option<u8> {
     if x >= 8 || y >= 8 {
         return None;
     }
-    bytes.get(y.unsigned_abs() as usize * 8 + x.unsigned_abs() as usize).copied()
+    bytes
+        .get(y.unsigned_abs() as usize * 8 + x.unsigned_abs() as usize)
+        .copied()
 }
 
 /// What a copy of a picture within itself gives by definition: where the clip and the mask allow it, the byte that lay so far to
@@ -109,10 +111,8 @@ fn moved(from: &[u8; 64], right: i32, down: i32, allows: bool) -> [u8; 64] {
 }
 
 /// The copy as the engine makes it.
-fn copied(alloc: Global, clip: &mut ClipObj, right: i32, down: i32) -> Result<[u8; 64], Fail>
-    requires { All (λ r. LiesIn r (record { w = 8; h = 8 })) clip.old.rects }
-    ensures { All (λ r. LiesIn r (record { w = 8; h = 8 })) clip.new.rects }
-{
+fn copied(alloc: Global, right: i32, down: i32) -> Result<[u8; 64], Fail> {
+    let mut clip = clip_of(alloc, &parts())?;
     let table = ColourTable::standard(alloc, Format::B8)?;
     let xlate = XlateObj::build(alloc, Format::B8, &table, Format::B8, &table, WHITE)?;
     let mut bytes = picture();
@@ -126,16 +126,15 @@ fn copied(alloc: Global, clip: &mut ClipObj, right: i32, down: i32) -> Result<[u
             y: 0i32.wrapping_sub(down),
         },
     };
-    eng_copy_bits(&mut dst, &call, None, &xlate, clip);
+    eng_copy_bits(&mut dst, &call, None, &xlate, &mut clip);
     Ok(bytes)
 }
 
 #[test]
 fn copies_by_every_shift(rt: HostRuntime) -> Result<(), Fail> {
-    let mut clip = clip_of(rt.alloc(), &parts())?;
     for down in -3..4 {
         for right in -3..4 {
-            let got = copied(rt.alloc(), &mut clip, right, down)?;
+            let got = copied(rt.alloc(), right, down)?;
             assert_eq!(rt; got, moved(&picture(), right, down, true), "{right} {down}");
         }
     }
@@ -146,10 +145,8 @@ fn copies_by_every_shift(rt: HostRuntime) -> Result<(), Fail> {
 const MASK: [u8; 8] = [0xaa, 0x55, 0xaa, 0x55, 0xaa, 0x55, 0xaa, 0x55];
 
 /// The same copy under a mask.
-fn masked(alloc: Global, clip: &mut ClipObj, right: i32, down: i32) -> Result<[u8; 64], Fail>
-    requires { All (λ r. LiesIn r (record { w = 8; h = 8 })) clip.old.rects }
-    ensures { All (λ r. LiesIn r (record { w = 8; h = 8 })) clip.new.rects }
-{
+fn masked(alloc: Global, right: i32, down: i32) -> Result<[u8; 64], Fail> {
+    let mut clip = clip_of(alloc, &parts())?;
     let table = ColourTable::standard(alloc, Format::B8)?;
     let xlate = XlateObj::build(alloc, Format::B8, &table, Format::B8, &table, WHITE)?;
     let brush = BrushObj::solid(alloc, WHITE);
@@ -168,17 +165,30 @@ fn masked(alloc: Global, clip: &mut ClipObj, right: i32, down: i32) -> Result<[u
         origin: ORIGIN,
         rop: Rop4::of(0xaacc),
     };
-    eng_bit_blt(alloc, &mut dst, &call, None, Some(&mask), &xlate, &table, &brush, clip)?;
+    eng_bit_blt(
+        alloc,
+        &mut dst,
+        &call,
+        None,
+        Some(&mask),
+        &xlate,
+        &table,
+        &brush,
+        &mut clip,
+    )?;
     Ok(bytes)
 }
 
 #[test]
 fn masked_blts_by_every_shift(rt: HostRuntime) -> Result<(), Fail> {
-    let mut clip = clip_of(rt.alloc(), &parts())?;
     for down in -3..4 {
         for right in -3..4 {
-            let got = masked(rt.alloc(), &mut clip, right, down)?;
-            assert_eq!(rt; got, moved(&picture(), right, down, false), "{right} {down}");
+            let got = masked(rt.alloc(), right, down)?;
+            assert_eq!(rt;
+                got,
+                moved(&picture(), right, down, false),
+                "{right} {down}"
+            );
         }
     }
     Ok(())
