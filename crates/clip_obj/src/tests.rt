@@ -58,27 +58,28 @@ fn clip_of(alloc: Global, rects: &[Rect], bounds: Rect) -> Result<ClipObj, Fail>
 
 /// Whether the next batches, of so many places, hold the parts of these numbers.
 fn hands_out(clip: &mut ClipObj, places: &mut [Rect], numbers: &[usize]) -> bool {
-    if places.is_empty() {
-        return false;
-    }
     let parts = parts();
-    let mut done = 0;
-    while done < numbers.len() {
-        let (len, more) = clip.next_batch(places);
-        let due = places.len().min(numbers.len() - done);
-        if len != due || more != (done + len < numbers.len()) {
+    let mut rest = numbers;
+    for _ in 0..numbers.len() {
+        if places.is_empty() {
             return false;
         }
-        for i in 0..len.min(places.len()) {
-            let number = numbers[done..].get(i);
-            let part = number.and_then(|n| parts.get(*n));
-            if part != Some(&places[i]) {
+        let (len, more) = clip.next_batch(places);
+        let due = places.len().min(rest.len());
+        if len != due {
+            return false;
+        }
+        for i in 0..due {
+            if parts.get(rest[i]) != Some(&places[i]) {
                 return false;
             }
         }
-        done += due;
+        rest = rest.split_at(due).1;
+        if more == rest.is_empty() {
+            return false;
+        }
     }
-    clip.next_batch(places) == (0, false)
+    rest.is_empty()
 }
 
 #[test]
