@@ -1,5 +1,5 @@
 -- The rectangles of bounds.
-use Rattle.std.proofs.Common.{◌≡◌, ◌∙◌, ℤ, ◌<ℤ◌, ◌≤ℤ◌, List, [], ◌∷◌, Bool, true, false, refl, ap, sym, arith, pos, ◌-ℤ◌, ◌&&◌, ◌||◌, IsTrue, ◌⊎◌, inl, inr, int_lt, int_le, get_or, length, ◌==◌, ◌<◌, ◌≤◌}
+use Rattle.std.proofs.Common.{◌≡◌, ◌∙◌, List, [], ◌∷◌, Bool, true, false, refl, ap, sym, arith, pos, ◌-ℤ◌, ◌&&◌, ◌||◌, IsTrue, ◌⊎◌, inl, inr, get_or, length, ◌==◌, ◌<◌, ◌≤◌}
 use Rattle.std.specs.List.{All}
 use Rattle.std.specs.Bool.{Decides}
 use Rattle.std.specs.Ordering.{int_eq}
@@ -13,8 +13,8 @@ use Rattle.geom_base.specs.Points.{IsIn, is_in, is_in_some}
 use Rattle.geom_base.proofs.PointLemmas.{is_in-IsIn, same_edges}
 use Rattle.region.specs.Order.{HasPoints}
 use Rattle.region.specs.Region.{IsRegion, IsRegionOf}
-use Rattle.region.proofs.RegionLemmas.{region_of_canonical, region_is_unique, region_same}
-use Rattle.region.proofs.BandLemmas.{rect_canonical, rect_points, rect_bands, rect_columns}
+use Rattle.region.proofs.RegionLemmas.{region_is_unique}
+use Rattle.region.proofs.BandLemmas.{rect_canonical, rect_bands, rect_columns}
 use Rattle.clip_obj.specs.Clip.{LiesWithin}
 
 or_none : (b : Bool) → (b || false) ≡ b

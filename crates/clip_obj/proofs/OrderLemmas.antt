@@ -1,20 +1,19 @@
 -- In which order two rectangles of an enumeration come.
-use Rattle.std.proofs.Common.{◌≡◌, ◌∙◌, ℕ, ◌-◌, ◌<◌, zero, suc, ℤ, ◌<ℤ◌, ◌≤ℤ◌, List, [], ◌∷◌, Bool, true, false, cond, refl, sym, ap, subst, arith, ◌⊎◌, inl, inr, length, get_or, reverse, ◌&&◌, int_lt, int_le}
+use Rattle.std.proofs.Common.{◌≡◌, ◌∙◌, ◌-◌, ◌<◌, suc, ◌<ℤ◌, ◌≤ℤ◌, List, [], ◌∷◌, Bool, true, false, cond, sym, arith, ◌⊎◌, inl, inr, length, get_or, reverse}
 use Rattle.std.specs.Ordering.{int_eq}
 use Rattle.std.specs.List.{All, AllPairs}
 use Rattle.std.specs.List.Sorted.{IsPermutation}
 use Rattle.std.proofs.lemmas.Int.{ints}
 use Rattle.std.proofs.lemmas.List.{get_or-reverse, length-reverse}
-use Rattle.std.proofs.lemmas.List.Elements.{All-nil, All-cons, All-head, All-tail, All-weaker}
+use Rattle.std.proofs.lemmas.List.Elements.{All-nil, All-cons, All-head, All-tail}
 use Rattle.std.proofs.lemmas.List.Kept.{AllPairs-cons}
 use Rattle.std.proofs.lemmas.List.Sorted.{IsPermutation-refl, IsPermutation-reverse, IsPermutation-trans, All-permutation}
-use Rattle.geom_base.specs.declared.point.Point.{Point}
 use Rattle.geom_base.specs.declared.rect.Rect.{Rect}
-use Rattle.geom_base.specs.Points.{is_in, AreApart}
+use Rattle.geom_base.specs.Points.{AreApart}
 use Rattle.region.specs.Order.{ComesFirst, HasPoints, IsInOrder}
 use Rattle.clip_obj.specs.declared.direction.Direction.{Direction}
 use Rattle.clip_obj.specs.declared.direction.Direction.TheVariants.{RightDown, LeftDown, RightUp, LeftUp, Any}
-use Rattle.clip_obj.specs.Order.{behind_band, turned, ordered, ShareBand, ComesBefore}
+use Rattle.clip_obj.specs.Order.{behind_band, turned, ordered, ComesBefore}
 use Rattle.clip_obj.proofs.TurnLemmas.{by_row, same_row, other_row, turned_rearranges}
 
 -- pairs

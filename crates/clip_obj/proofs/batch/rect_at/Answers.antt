@@ -1,6 +1,5 @@
-use Rattle.std.proofs.Common.{◌≡◌, ◌∙◌, sym, ap, arith, length}
+use Rattle.std.proofs.Common.{◌∙◌, sym, ap, arith, length}
 use Rattle.std.proofs.lemmas.List.{get_or-reverse}
-use Rattle.clip_obj.specs.Order.{turned, ordered}
 use Rattle.clip_obj.specs.declared.direction.Direction.TheVariants.{LeftDown}
 use Rattle.geom_base.specs.Points.{no_rect}
 use Rattle.clip_obj.proofs.BatchLemmas.{length-ordered, turned_back}

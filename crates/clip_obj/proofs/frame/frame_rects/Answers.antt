@@ -1,5 +1,4 @@
 use Rattle.std.proofs.Common.{refl, rules}
-use Rattle.std.proofs.lemmas.Bool.{false≢true}
 use Rattle.clip_obj.proofs.FrameLemmas.{frame_listed}
 use Rattle.clip_obj.proofs.frame.frame_rects.Goals as goal
 
