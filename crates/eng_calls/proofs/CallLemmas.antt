@@ -1,5 +1,5 @@
 -- Calls by their operands, as the target's values now give them.
-use Rattle.std.proofs.Common.{◌≡◌, ◌∙◌, ℕ, List, Bool, true, false, cond, refl, sym, ap, subst, Option, Some, None, option_map, IsTrue, ◌==◌}
+use Rattle.std.proofs.Common.{◌≡◌, ◌∙◌, ℕ, List, Bool, true, false, cond, refl, sym, ap, subst, Option, Some, None, option_map}
 use Rattle.std.specs.Borrow.{Bor}
 use Rattle.std.specs.List.{AllPairs}
 use Rattle.geom_base.specs.declared.point.Point.{Point}

@@ -1,6 +1,6 @@
 -- Rectangles one after the other are one step.
-use Rattle.std.proofs.Common.{◌≡◌, ◌∙◌, ℕ, ◌+◌, ◌*◌, ◌/◌, ◌%◌, ◌<◌, ◌≤◌, ℤ, pos, negsuc, ◌≤ℤ◌, ◌<ℤ◌, Bool, true, false, cond, ◌||◌, ◌&&◌, List, [], ◌∷◌, ◌++◌, length, get_or, take, drop, refl, sym, ap, arith, zero, suc, zero-add, ◌⊎◌, inl, inr, IsTrue, unsigned_abs}
-use Rattle.std.specs.List.{All, AllPairs}
+use Rattle.std.proofs.Common.{◌≡◌, ◌∙◌, ℕ, ◌<◌, ◌≤◌, ℤ, pos, negsuc, ◌≤ℤ◌, Bool, true, false, ◌||◌, ◌&&◌, List, [], ◌∷◌, ◌++◌, length, get_or, refl, sym, arith, zero-add, ◌⊎◌, inl, inr, IsTrue, unsigned_abs}
+use Rattle.std.specs.List.{All}
 use Rattle.std.specs.List.Sorted.{IsPermutation}
 use Rattle.std.proofs.lemmas.Bool.{false≢true, cases_lt}
 use Rattle.std.proofs.lemmas.Int.{ints}
@@ -15,7 +15,7 @@ use Rattle.geom_base.specs.Points.{IsIn, is_in, is_in_some, AreApart}
 use Rattle.geom_base.proofs.PointLemmas.{is_in-IsIn}
 use Rattle.surf_obj.specs.Changes.{Change}
 use Rattle.surf_obj.specs.Steps.{redrawn_two, redrawn_nowhere, redrawn_ext, get_or-map_from, length-redrawn}
-use Rattle.surf_obj.specs.Surface.{value_of_point, place_of, point_at, point_of, step_at, value_after, whole, redrawn}
+use Rattle.surf_obj.specs.Surface.{value_of_point, place_of, point_of, step_at, whole, redrawn}
 use Rattle.clip_obj.proofs.OrderLemmas.{pairs_head, pairs_tail}
 use Rattle.eng_calls.specs.Steps.{Rule, step_by_step, Keeps, StepsAreOne}
 

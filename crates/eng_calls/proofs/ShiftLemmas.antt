@@ -1,16 +1,14 @@
 -- The order that a shift asks for.
-use Rattle.std.proofs.Common.{◌≡◌, ◌∙◌, ℤ, ◌+ℤ◌, ◌-ℤ◌, ◌≤ℤ◌, ◌<ℤ◌, Bool, true, false, cond, refl, sym, ap, subst, arith, ◌⊎◌, inl, inr, IsTrue, int_lt}
-use Rattle.std.proofs.lemmas.Bool.{false≢true}
+use Rattle.std.proofs.Common.{◌≡◌, ℤ, ◌≤ℤ◌, ◌<ℤ◌, Bool, true, false, cond, refl, arith, inl, inr, IsTrue, int_lt}
 use Rattle.std.proofs.lemmas.Int.{ints}
 use Rattle.geom_base.specs.declared.point.Point.{Point}
 use Rattle.geom_base.specs.declared.rect.Rect.{Rect}
 use Rattle.geom_base.specs.Points.{IsIn, is_in}
 use Rattle.geom_base.proofs.PointLemmas.{is_in-IsIn}
 use Rattle.brush_obj.specs.Calls.{point_across}
-use Rattle.clip_obj.specs.declared.direction.Direction.{Direction}
 use Rattle.clip_obj.specs.declared.direction.Direction.TheVariants.{RightDown, LeftDown, RightUp, LeftUp}
 use Rattle.clip_obj.specs.Order.{ComesBefore}
-use Rattle.eng_calls.specs.Order.{direction_of, sideways_of, SparesSource, ShiftsAreInOrder}
+use Rattle.eng_calls.specs.Order.{ShiftsAreInOrder}
 
 not_in : (q : Point) (r : Rect) → (IsIn q r → ⊥) → is_in q r ≡ false
 not_in q r none = empty (is_in q r) (λ h. none ((is_in-IsIn q r).0 h))

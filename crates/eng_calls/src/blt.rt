@@ -7,7 +7,7 @@ ghost use Rattle.surf_obj.specs.Lent.{values_of, size_of, format_of, bytes_of, O
 ghost use Rattle.surf_obj.specs.Surface.{redrawn};
 ghost use Rattle.brush_obj.specs.Calls.{Operands, new_of_blt};
 ghost use Rattle.blt_kernel.specs.Given.{BltsWith, TranslatesFrom};
-ghost use Rattle.eng_calls.specs.Kept.{TakesCopy};
+ghost use Rattle.eng_calls.specs.Memory.{MayWantMemory};
 
 use crate::draws::{Draws, draw_clip};
 use crate::order::direction_for;
@@ -50,7 +50,8 @@ impl Draws for Blitting<'_> {
 ///
 /// # Errors
 ///
-/// `AllocError` for want of memory for a copy of the source, where that is the target itself and a mask is needed.
+/// `AllocError` only for want of memory for a copy of the source, where that is the target itself and a mask is needed. None is taken
+/// today: on bits the order of drawing keeps the source's pixels until they are read, with a mask as without.
 pub fn eng_bit_blt(
     _alloc: Global,
     dst: &mut LentSurf<'_>,
@@ -70,7 +71,7 @@ pub fn eng_bit_blt(
         OnOk result (values_of dst.new ≡ redrawn (size_of dst.old) (values_of dst.old) (λ p. is_in_some p clip.old.rects) (new_of_blt call.now o)) }
     ensures only { OnlyPixels dst.old dst.new }
     ensures unchanged { OnErr result (bytes_of dst.new ≡ bytes_of dst.old) }
-    ensures cause { OnErr result (TakesCopy call.now src.entry) }
+    ensures cause { OnErr result (MayWantMemory call.now src.entry) }
     ensures rects { clip.new.rects ≡ clip.old.rects }
     ensures bounds { clip.new.bounds ≡ clip.old.bounds }
 {

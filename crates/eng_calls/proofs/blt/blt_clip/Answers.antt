@@ -1,5 +1,5 @@
-use Rattle.std.proofs.Common.{◌∙◌, refl, sym, ap, ◌≡◌}
-use Rattle.surf_obj.specs.Lent.{size_of, format_of, values_of}
+use Rattle.std.proofs.Common.{◌∙◌, refl}
+use Rattle.surf_obj.specs.Lent.{size_of, values_of}
 use Rattle.brush_obj.specs.Calls.{new_of_blt}
 use Rattle.eng_calls.proofs.CallLemmas.{whole_step, blt_rule, with_now, blts_now, same_before, shift_keeps}
 use Rattle.eng_calls.proofs.blt.blt_clip.Goals as goal

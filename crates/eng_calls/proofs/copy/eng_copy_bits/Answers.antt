@@ -1,7 +1,7 @@
-use Rattle.std.proofs.Common.{◌∙◌, refl, sym}
-use Rattle.surf_obj.specs.Lent.{size_of, format_of, values_of}
+use Rattle.std.proofs.Common.{◌∙◌, refl}
+use Rattle.surf_obj.specs.Lent.{size_of, values_of}
 use Rattle.brush_obj.specs.Calls.{blt_of, new_of_copy}
-use Rattle.eng_calls.proofs.CallLemmas.{whole_step, blt_rule, with_now, copies_now, same_before, shift_keeps, translates_like}
+use Rattle.eng_calls.proofs.CallLemmas.{whole_step, blt_rule, with_now, copies_now, same_before, shift_keeps}
 use Rattle.eng_calls.proofs.copy.eng_copy_bits.Goals as goal
 
 pub returns-clause-values : goal.returns-clause-values

@@ -1,4 +1,4 @@
-use Rattle.std.proofs.Common.{◌≡◌, ◌≤◌, ◌∙◌, ℕ, length, take, drop, ap, sym, subst, refl, rules}
+use Rattle.std.proofs.Common.{◌≡◌, ◌≤◌, ◌∙◌, ℕ, length, take, drop, ap, sym, subst}
 use Rattle.std.proofs.Math.Nat.{min-le_right}
 use Rattle.geom_base.specs.Points.{LiesIn}
 use Rattle.surf_obj.specs.Lent.{size_of}

@@ -1,4 +1,4 @@
-use Rattle.std.proofs.Common.{◌∙◌, refl, sym, ap, arith, subst}
+use Rattle.std.proofs.Common.{◌∙◌, refl, sym, arith, subst}
 use Rattle.geom_base.specs.Points.{no_rect, LiesIn}
 use Rattle.surf_obj.specs.Lent.{size_of}
 use Rattle.surf_obj.proofs.LentLemmas.{OnlyPixels-refl, OnlyPixels-trans, OnlyPixels-size, OnlyPixels-format}

@@ -1,6 +1,5 @@
-use Rattle.std.proofs.Common.{◌∙◌, refl, sym, ap, ◌≡◌}
-use Rattle.pix_format.specs.declared.format.Format.{Format}
-use Rattle.surf_obj.specs.Lent.{size_of, format_of, values_of}
+use Rattle.std.proofs.Common.{◌∙◌, refl, sym}
+use Rattle.surf_obj.specs.Lent.{size_of, values_of}
 use Rattle.brush_obj.specs.Calls.{new_of_paint}
 use Rattle.clip_obj.specs.declared.direction.Direction.TheVariants.{Any}
 use Rattle.eng_calls.proofs.CallLemmas.{whole_step}
