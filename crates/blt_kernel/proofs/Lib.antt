@@ -7,3 +7,4 @@ pub mod KernelLemmas
 pub mod SpanLemmas
 pub mod ThereLemmas
 pub mod BltLemmas
+pub mod CopyLemmas

@@ -84,7 +84,8 @@ source_kept None forward size format old now done new l t r b x y long is order 
 source_kept (Some s) forward size format old now done new l t r b x y long is order fits hl hr ht hb apart =
     ap (translated s.xlate.now) (value_kept s.lent s.across forward size old now done new l t r b x y long is order fits.there hl hr ht hb apart)
 
-in_box : (l t r b x y : ℕ) → is_in (point_at x y) (box_of l t r b) ≡ true → (l ≤ x) × (x < r) × (t ≤ y) × (y < b)
+-- the columns and rows of a point of a box
+pub in_box : (l t r b x y : ℕ) → is_in (point_at x y) (box_of l t r b) ≡ true → (l ≤ x) × (x < r) × (t ≤ y) × (y < b)
 in_box l t r b x y h = (grind (arith, nat_tests), grind (arith, nat_tests), grind (arith, nat_tests), grind (arith, nat_tests))
 
 lists_more : (d : Drawing) (forward : Bool) (size size' : Size) (format format' : Format) (old now next : List ℕ) (done both : Rect) (l t r b : ℕ) → size' ≡ size → format' ≡ format → length old ≡ size.w * size.h →

@@ -37,9 +37,17 @@ abbrev pub values_from : Option (Bor LentView) → List ℕ → List ℕ
 values_from (Some v) values = view_values v.now
 values_from None values = values
 
+-- the source's own value that belongs to a point
+abbrev pub own_value : Source → Size → List ℕ → Point → ℕ
+own_value s size values p = value_across s.across (size_from s.lent size) (values_from s.lent values) p
+
+-- each point gets it
+abbrev pub given : Source → Size → List ℕ → Change
+given s size values p old = Some (own_value s size values p)
+
 -- the source's value that belongs to a point, as the target keeps it
 abbrev pub source_at : Source → Size → List ℕ → Point → ℕ
-source_at s size values p = translated s.xlate.now (value_across s.across (size_from s.lent size) (values_from s.lent values) p)
+source_at s size values p = translated s.xlate.now (own_value s size values p)
 
 -- the same, or 0 where no source is needed
 abbrev pub source_or_zero : Option Source → Size → List ℕ → Point → ℕ

@@ -5,3 +5,4 @@ pub mod There
 pub mod Given
 pub mod Boxes
 pub mod Fills
+pub mod Ways

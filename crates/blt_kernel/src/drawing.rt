@@ -4,11 +4,14 @@ ghost use Rattle.std.specs.Prelude.{◌≡◌, ◌≤◌, ◌+◌, IsTrue, IfSom
 ghost use Rattle.surf_obj.specs.Lent.{size_of, format_of};
 ghost use Rattle.blt_kernel.specs.Fills.{FillsWith, takes_pattern_alone};
 ghost use Rattle.blt_kernel.specs.Order.{KeepsSource};
+ghost use Rattle.blt_kernel.specs.Ways.{IsWayOf};
 ghost use Rattle.blt_kernel.specs.Drawing.{CanDraw, IsDrawn, GivesRun};
 
+use crate::edges::Edges;
 use crate::ink::Ink;
 use crate::mask::Mask;
 use crate::source::{Source, read_source};
+use crate::way::Way;
 use pix_format::Format;
 use rop_mix::{Rop4, apply_fill, apply_masked, apply_row, apply_solid, rop3};
 use surf_obj::LentSurf;
@@ -22,7 +25,7 @@ pub struct Drawing<'a> {
     pub ink: Ink<'a>,
 }
 
-impl Drawing<'_> {
+impl<'a> Drawing<'a> {
     /// The order in which each point of the target is read before it is drawn: from the top and from the left, or else from the
     /// bottom and from the right.
     pub fn is_forward(&self) -> bool
@@ -34,16 +37,34 @@ impl Drawing<'_> {
         }
     }
 
-    /// Draws a run of at most 256 pixels.
+    /// Draws a run of at most 512 pixels.
     pub fn draw_run(&self, dst: &mut LentSurf<'_>, x: u32, y: u32, len: usize)
-        requires short { len ≤ 256 }
+        requires short { len ≤ 512 }
         requires able { CanDraw self.now (size_of dst.old) (format_of dst.old) x y (x + len) (y + 1) }
         ensures { IsDrawn self.now x y (x + len) (y + 1) dst.old dst.new }
     {
-        let mut values = [0; 256];
+        let mut values = [0; 512];
         let values = &mut values[..len];
         self.combine(dst, x, y, values);
         dst.write_run(x, y, values);
+    }
+
+    /// How it goes along the rows of a box.
+    pub fn way(&self, dst: &LentSurf<'_>, edges: &Edges) -> Way<'a>
+        requires across { edges.now.left ≤ edges.now.right }
+        requires able { CanDraw self.now (size_of dst.now) (format_of dst.now) edges.now.left edges.now.top edges.now.right edges.now.bottom }
+        ensures { IsWayOf self.now (format_of dst.now) edges.now.left result }
+    {
+        if let Some(value) = self.fill_value(dst.format()) {
+            return Way::Fill(value);
+        }
+        match (self.mask, self.source) {
+            (None, Some(source))
+                if self.rop.clear_code() == 0xcc && source.has_its_bytes(dst, edges) => {
+                Way::Copy(source)
+            }
+            _ => Way::Combine,
+        }
     }
 
     /// The value that all pixels get, where it is the same whatever the source and the old values.
@@ -61,7 +82,7 @@ impl Drawing<'_> {
 
     /// The new values of a run.
     fn combine(&self, dst: &LentSurf<'_>, x: u32, y: u32, values: &mut [u32])
-        requires short { length values.old ≤ 256 }
+        requires short { length values.old ≤ 512 }
         requires able { CanDraw self.now (size_of dst.now) (format_of dst.now) x y (x + length values.old) (y + 1) }
         ensures { GivesRun self.now dst.now x y values.new }
     {
@@ -81,19 +102,19 @@ impl Drawing<'_> {
         values: &mut [u32],
     )
         requires mask { self.now.mask ≡ Some mask.now }
-        requires short { length values.old ≤ 256 }
+        requires short { length values.old ≤ 512 }
         requires able { CanDraw self.now (size_of dst.now) (format_of dst.now) x y (x + length values.old) (y + 1) }
         ensures { GivesRun self.now dst.now x y values.new }
     {
         let len = values.len();
         let format = dst.format();
-        let mut pattern = [0; 256];
+        let mut pattern = [0; 512];
         let pattern = &mut pattern[..len];
         self.ink.fill_run(format, x, y, pattern);
-        let mut source = [0; 256];
+        let mut source = [0; 512];
         let source = &mut source[..len];
         read_source(&self.source, dst, x, y, source);
-        let mut bits = [0; 256];
+        let mut bits = [0; 512];
         let bits = &mut bits[..len];
         mask.read_run(x, y, bits);
         dst.read_run(x, y, values);
@@ -103,7 +124,7 @@ impl Drawing<'_> {
     /// The new values of a run by one code.
     fn combine_unmasked(&self, dst: &LentSurf<'_>, x: u32, y: u32, values: &mut [u32])
         requires mask { self.now.mask ≡ None }
-        requires short { length values.old ≤ 256 }
+        requires short { length values.old ≤ 512 }
         requires able { CanDraw self.now (size_of dst.now) (format_of dst.now) x y (x + length values.old) (y + 1) }
         ensures { GivesRun self.now dst.now x y values.new }
     {
@@ -117,7 +138,7 @@ impl Drawing<'_> {
     fn combine_pattern(&self, dst: &LentSurf<'_>, x: u32, y: u32, values: &mut [u32])
         requires mask { self.now.mask ≡ None }
         requires source { self.now.source ≡ None }
-        requires short { length values.old ≤ 256 }
+        requires short { length values.old ≤ 512 }
         requires able { CanDraw self.now (size_of dst.now) (format_of dst.now) x y (x + length values.old) (y + 1) }
         ensures { GivesRun self.now dst.now x y values.new }
     {
@@ -128,10 +149,10 @@ impl Drawing<'_> {
             apply_fill(code, value, values, format.bits());
             return;
         }
-        let mut pattern = [0; 256];
+        let mut pattern = [0; 512];
         let pattern = &mut pattern[..values.len()];
         self.ink.fill_run(format, x, y, pattern);
-        let mut source = [0; 256];
+        let mut source = [0; 512];
         let source = &mut source[..values.len()];
         read_source(&self.source, dst, x, y, source);
         apply_row(code, pattern, source, values, format.bits());
@@ -148,7 +169,7 @@ impl Drawing<'_> {
     )
         requires mask { self.now.mask ≡ None }
         requires source { self.now.source ≡ Some source.now }
-        requires short { length values.old ≤ 256 }
+        requires short { length values.old ≤ 512 }
         requires able { CanDraw self.now (size_of dst.now) (format_of dst.now) x y (x + length values.old) (y + 1) }
         ensures { GivesRun self.now dst.now x y values.new }
     {
@@ -159,7 +180,7 @@ impl Drawing<'_> {
         }
         let len = values.len();
         let format = dst.format();
-        let mut own = [0; 256];
+        let mut own = [0; 512];
         let own = &mut own[..len];
         source.read_run(dst, x, y, own);
         dst.read_run(x, y, values);
@@ -167,7 +188,7 @@ impl Drawing<'_> {
             apply_solid(code, value, own, values, format.bits());
             return;
         }
-        let mut pattern = [0; 256];
+        let mut pattern = [0; 512];
         let pattern = &mut pattern[..len];
         self.ink.fill_run(format, x, y, pattern);
         apply_row(code, pattern, own, values, format.bits());

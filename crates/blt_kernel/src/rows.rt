@@ -4,13 +4,15 @@ ghost use Rattle.std.specs.Prelude.{◌≡◌, ◌≤◌, ◌<◌, ◌+◌, ◌-
 ghost use Rattle.surf_obj.specs.Lent.{size_of, format_of};
 ghost use Rattle.blt_kernel.specs.Drawing.{CanDraw, IsDrawn};
 ghost use Rattle.blt_kernel.specs.Order.{KeepsSource};
+ghost use Rattle.blt_kernel.specs.Ways.{IsWayOf};
 
 use crate::drawing::Drawing;
 use crate::edges::Edges;
+use crate::way::Way;
 use surf_obj::LentSurf;
 
 /// The most pixels that are drawn at once.
-const RUN: u32 = 256;
+const RUN: u32 = 512;
 
 /// Draws in a box, its rows from the top and from the left, or from the bottom and from the right.
 pub fn draw_box(drawing: &Drawing<'_>, dst: &mut LentSurf<'_>, edges: &Edges, forward: bool)
@@ -20,14 +22,38 @@ pub fn draw_box(drawing: &Drawing<'_>, dst: &mut LentSurf<'_>, edges: &Edges, fo
     requires order { KeepsSource drawing.now.source forward }
     ensures { IsDrawn drawing.now edges.now.left edges.now.top edges.now.right edges.now.bottom dst.old dst.new }
 {
+    let way = drawing.way(dst, edges);
     for i in 0..edges.bottom - edges.top {
         let y = part_start(edges.top, edges.bottom, i, 1, forward);
-        draw_row(drawing, dst, edges.left, edges.right, y, forward);
+        draw_row(drawing, &way, dst, edges.left, edges.right, y, forward);
     }
 }
 
 /// Draws in a row, from the left or from the right.
 fn draw_row(
+    drawing: &Drawing<'_>,
+    way: &Way<'_>,
+    dst: &mut LentSurf<'_>,
+    left: u32,
+    right: u32,
+    y: u32,
+    forward: bool,
+)
+    requires across { left ≤ right }
+    requires able { CanDraw drawing.now (size_of dst.old) (format_of dst.old) left y right (y + 1) }
+    requires order { KeepsSource drawing.now.source forward }
+    requires way { IsWayOf drawing.now (format_of dst.old) left way.now }
+    ensures { IsDrawn drawing.now left y right (y + 1) dst.old dst.new }
+{
+    match way {
+        Way::Fill(value) => dst.fill_run(left, y, (right - left) as usize, *value),
+        Way::Copy(source) => source.copy_row(dst, left, y, (right - left) as usize),
+        Way::Combine => draw_runs(drawing, dst, left, right, y, forward),
+    }
+}
+
+/// Draws in a row run by run, from the left or from the right.
+fn draw_runs(
     drawing: &Drawing<'_>,
     dst: &mut LentSurf<'_>,
     left: u32,
@@ -41,10 +67,6 @@ fn draw_row(
     ensures { IsDrawn drawing.now left y right (y + 1) dst.old dst.new }
 {
     let width = right - left;
-    if let Some(value) = drawing.fill_value(dst.format()) {
-        dst.fill_run(left, y, width as usize, value);
-        return;
-    }
     let mut done = 0;
     while done < width {
         let len = RUN.min(width - done);

@@ -1,18 +1,21 @@
 //! Sources.
 
-ghost use Rattle.std.specs.Prelude.{◌≡◌, ◌<◌, ◌+◌, ◌^◌, ◌↔◌, IsTrue, None, IfSome, EachIndex, All, length, slice_index};
+ghost use Rattle.std.specs.Prelude.{◌≡◌, ◌≤◌, ◌<◌, ℕ, ◌+◌, ◌*◌, ◌%◌, ◌^◌, ◌↔◌, IsTrue, None, IfSome, EachIndex, All, length, slice_index};
 ghost use Rattle.pix_format.specs.Value.{bits_of};
 ghost use Rattle.rop_mix.specs.Needs.{source_needed};
-ghost use Rattle.surf_obj.specs.Lent.{values_of, size_of, format_of};
-ghost use Rattle.surf_obj.specs.Surface.{point_at};
-ghost use Rattle.blt_kernel.specs.Drawing.{SourceFits, source_at, source_or_zero, format_from, size_from, values_from};
+ghost use Rattle.surf_obj.specs.Lent.{values_of, size_of, format_of, OnlyPixels};
+ghost use Rattle.surf_obj.specs.Surface.{point_at, redrawn};
+ghost use Rattle.blt_kernel.specs.Drawing.{SourceFits, own_value, given, source_at, source_or_zero, format_from, size_from, values_from};
 ghost use Rattle.blt_kernel.specs.Across.{Reaches, value_across};
 ghost use Rattle.blt_kernel.specs.Given.{source_given};
 ghost use Rattle.blt_kernel.specs.Order.{KeepsUnlent};
+ghost use Rattle.blt_kernel.specs.Ways.{HasItsBytes, AreAligned};
+ghost use Rattle.geom_base.specs.Points.{is_in, box_of};
 
 use crate::across::Across;
+use crate::edges::Edges;
 use geom_base::{Size, Target};
-use pix_format::XlateObj;
+use pix_format::{Format, XlateKind, XlateObj};
 use rop_mix::{Rop4, needs_source};
 use surf_obj::{LentSurf, LentView};
 
@@ -47,6 +50,46 @@ impl Source<'_> {
         }
     }
 
+    /// Whether it has the bytes that the rows of a box get where they get its pixels.
+    pub fn has_its_bytes(&self, dst: &LentSurf<'_>, edges: &Edges) -> bool
+        requires across { edges.now.left ≤ edges.now.right }
+        requires fits { SourceFits (size_of dst.now) (format_of dst.now) edges.now.left edges.now.top edges.now.right edges.now.bottom self.now }
+        ensures { IsTrue result → HasItsBytes (format_of dst.now) edges.now.left self.now }
+    {
+        self.xlate.kind() == XlateKind::Trivial && self.is_aligned(dst, edges)
+    }
+
+    /// Whether its pixels for the first column of a box begin at the same bit of a byte as those.
+    fn is_aligned(&self, dst: &LentSurf<'_>, edges: &Edges) -> bool
+        requires across { edges.now.left ≤ edges.now.right }
+        requires fits { SourceFits (size_of dst.now) (format_of dst.now) edges.now.left edges.now.top edges.now.right edges.now.bottom self.now }
+        ensures { IsTrue result → AreAligned self.now.lent self.now.across (format_of dst.now) edges.now.left }
+    {
+        let format = dst.format();
+        match self.lent {
+            Some(_) => same_bit(format, edges.left, self.across.column(edges.left)),
+            None => format.bits() % 8 == 0,
+        }
+    }
+
+    /// Copies a row of its pixels as bytes.
+    pub fn copy_row(&self, dst: &mut LentSurf<'_>, x: u32, y: u32, len: usize)
+        requires columns { x + len ≤ (size_of dst.old).w }
+        requires row { y < (size_of dst.old).h }
+        requires there { Reaches self.now.across (size_from self.now.lent (size_of dst.old)) x y (x + len) (y + 1) }
+        requires bytes { HasItsBytes (format_of dst.old) x self.now }
+        ensures values { values_of dst.new ≡ redrawn (size_of dst.old) (values_of dst.old) (λ p. is_in p (box_of x y (x + len) (y + 1))) (given self.now (size_of dst.old) (values_of dst.old)) }
+        ensures fit { (k : ℕ) → k < len → own_value self.now (size_of dst.old) (values_of dst.old) (point_at (x + k) y) < 2 ^ bits_of (format_of dst.old) }
+        ensures only { OnlyPixels dst.old dst.new }
+    {
+        let from_x = self.across.column(x);
+        let from_y = self.across.row(y);
+        match self.lent {
+            Some(view) => dst.copy_run(x, y, len, view, from_x, from_y),
+            None => dst.move_run(x, y, len, from_x, from_y),
+        }
+    }
+
     /// Reads the source's values for a run of the target, as the target keeps them.
     pub fn read_run(&self, dst: &LentSurf<'_>, x: u32, y: u32, out: &mut [u32])
         requires { SourceFits (size_of dst.now) (format_of dst.now) x y (x + length out.old) (y + 1) self.now }
@@ -69,6 +112,17 @@ impl Source<'_> {
             Some(view) => view.read_run(x, y, out),
             None => dst.read_run(x, y, out),
         }
+    }
+}
+
+/// Whether two columns begin at the same bit of a byte.
+fn same_bit(format: Format, a: u32, b: u32) -> bool
+    ensures { IsTrue result → a * bits_of format % 8 ≡ b * bits_of format % 8 }
+{
+    match format {
+        Format::B1 => a % 8 == b % 8,
+        Format::B4 => a % 2 == b % 2,
+        Format::B8 | Format::B555 | Format::B565 | Format::B24 | Format::B32 => true,
     }
 }
 

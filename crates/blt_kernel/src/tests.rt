@@ -173,6 +173,18 @@ fn copies_between_formats(rt: HostRuntime) -> Result<(), AllocError> {
     Ok(())
 }
 
+#[test]
+fn bits_at_one_place_of_a_byte_and_at_another(rt: HostRuntime) -> Result<(), AllocError> {
+    let view = LentView::on(&MASK, SIZE, Format::B1, 1, false);
+    let whole = rect(0, 0, 4, 3);
+    let same = copied(rt.alloc(), &view, Format::B1, Format::B1, whole, ORIGIN)?;
+    assert_eq!(rt; same, [0xa0, 0, 0, 0, 0x70, 0, 0, 0, 0xd0, 0, 0, 0]);
+    let at = Point { x: 1, y: 0 };
+    let moved = copied(rt.alloc(), &view, Format::B1, Format::B1, whole, at)?;
+    assert_eq!(rt; moved, [0x40, 0, 0, 0, 0xe0, 0, 0, 0, 0xa0, 0, 0, 0]);
+    Ok(())
+}
+
 /// The other picture after a raster operation with a source that is lent or held, and a mask.
 fn combined(
     alloc: Global,

@@ -7,7 +7,7 @@ use crate::rgb::Rgb;
 
 /// The index of the table's colour that is nearest to one; of equally near ones the lowest.
 ///
-/// The least of the distances with their indices below them: a loop without branches.
+/// The least of the distances with their indices below them. Where red alone makes more, the rest of a distance isn't asked for.
 pub fn nearest(table: &[Rgb], colour: Rgb) -> usize
     requires some { 0 < length table.now }
     requires few { length table.now < 257 }
@@ -17,7 +17,9 @@ pub fn nearest(table: &[Rgb], colour: Rgb) -> usize
 {
     let mut best = table[0].distance(colour) * 256;
     for i in 1..table.len() {
-        best = best.min(table[i].distance(colour) * 256 + i as u32);
+        if table[i].red_distance(colour) * 256 <= best {
+            best = best.min(table[i].distance(colour) * 256 + i as u32);
+        }
     }
     (best % 256) as usize
 }

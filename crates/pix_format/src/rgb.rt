@@ -12,6 +12,14 @@ pub struct Rgb {
 }
 
 impl Rgb {
+    /// The part of the distance that red alone makes.
+    pub(crate) fn red_distance(self, other: Rgb) -> u32
+        ensures value { result ≡ squared_difference self.r other.r }
+        ensures small { result ≤ 65025 }
+    {
+        squared_difference(self.r, other.r)
+    }
+
     /// How far apart two colours are: the sum of the squared differences of their channels.
     pub(crate) fn distance(self, other: Rgb) -> u32
         ensures value { result ≡ distance self other }
@@ -23,10 +31,11 @@ impl Rgb {
     }
 }
 
+/// The square of the difference of two channels. It fits 16 bits, which makes loops over tables fast.
 fn squared_difference(a: u8, b: u8) -> u32
     ensures value { result ≡ squared_difference a b }
     ensures small { result ≤ 65025 }
 {
-    let difference = u32::from(a.abs_diff(b));
-    difference * difference
+    let difference = u16::from(a.abs_diff(b));
+    u32::from(difference * difference)
 }

@@ -2,6 +2,7 @@
 
 ghost use Rattle.std.specs.Prelude.{◌≡◌, ◌<◌, ◌^◌, ◌==◌, if◌then◌else◌, All, EachIndex, length, slice_index, slice_index_or};
 ghost use Rattle.pix_format.specs.Colour as colour;
+ghost use Rattle.pix_format.specs.Kept.{KeepsNearest};
 ghost use Rattle.pix_format.specs.Packing as packing;
 ghost use Rattle.pix_format.specs.Value.{bits_of, black, colours_of};
 ghost use Rattle.pix_format.specs.Value as spec;
@@ -78,8 +79,8 @@ fn unpack_table(values: &mut [u32], table: &[Rgb])
     }
 }
 
-/// The index nearest to each colour of three bytes. Neighbours are often alike, so a colour that
-/// was asked for just before is not asked for again.
+/// The index nearest to each colour of three bytes. Colours come again, so some that were asked for are kept with their
+/// indices, each at a place that it has by its value.
 fn pack_table(values: &mut [u32], table: &[Rgb])
     requires some { 0 < length table.now }
     requires few { length table.now < 257 }
@@ -88,13 +89,37 @@ fn pack_table(values: &mut [u32], table: &[Rgb])
     if values.is_empty() {
         return;
     }
-    let mut asked = values[0];
-    let mut index = nearest(table, unpacked888(asked)) as u32;
+    let first = values[0];
+    let index = nearest(table, unpacked888(first)) as u32;
+    let mut asked = [first; 64];
+    let mut found = [index; 64];
     for i in 0..values.len() {
-        if values[i] != asked {
-            asked = values[i];
-            index = nearest(table, unpacked888(asked)) as u32;
-        }
-        values[i] = index;
+        values[i] = index_of(values[i], table, &mut asked, &mut found);
     }
+}
+
+/// The index nearest to a colour of three bytes, which is kept or searched for.
+#[inline]
+fn index_of(value: u32, table: &[Rgb], asked: &mut [u32], found: &mut [u32]) -> u32
+    requires some { 0 < length table.now }
+    requires few { length table.now < 257 }
+    requires asked { length asked.old ≡ 64 }
+    requires found { length found.old ≡ 64 }
+    requires kept { KeepsNearest table.now asked.old found.old }
+    ensures index { result ≡ colour.nearest table.now (packing.unpacked888 value) }
+    ensures kept { KeepsNearest table.now asked.new found.new }
+{
+    let place = place_of(value);
+    if asked[place] != value {
+        asked[place] = value;
+        found[place] = nearest(table, unpacked888(value)) as u32;
+    }
+    found[place]
+}
+
+/// A place among 64 for a value: the high bits of a product, in which neighbours are apart.
+fn place_of(value: u32) -> usize
+    ensures { result < 64 }
+{
+    (value.wrapping_mul(0x9e37_79b1) / 0x400_0000) as usize
 }

@@ -31,11 +31,11 @@ rect_test : (x y left top right bottom : ℤ) → left <ℤ right → top <ℤ b
     cond (int_lt y top) false (cond (int_lt y bottom) (cond (int_lt x left) false (cond (int_lt x right) true false)) false) ≡ (int_le left x && int_lt x right && int_le top y && int_lt y bottom)
 rect_test x y left top right bottom h k = grind (arith, ints)
 
-rect_points : (r : Rect) (p : Point) → r.left <ℤ r.right → r.top <ℤ r.bottom → has_point (rect_bands r (rect_columns r)) p ≡ is_in p r
+pub rect_points : (r : Rect) (p : Point) → r.left <ℤ r.right → r.top <ℤ r.bottom → has_point (rect_bands r (rect_columns r)) p ≡ is_in p r
 rect_points r p h k = column_inside p.x (int_lt p.y r.top) [] (cond (int_lt p.y r.bottom) (rect_columns r) []) ∙ ap (λ u. cond (int_lt p.y r.top) false u) (column_inside p.x (int_lt p.y r.bottom) (rect_columns r) [])
     ∙ rect_test p.x p.y r.left r.top r.right r.bottom h k
 
-rect_canonical : (r : Rect) → r.left <ℤ r.right → r.top <ℤ r.bottom → IsCanonical (rect_bands r (rect_columns r))
+pub rect_canonical : (r : Rect) → r.left <ℤ r.right → r.top <ℤ r.bottom → IsCanonical (rect_bands r (rect_columns r))
 rect_canonical r h k = record {
   reduced = ((λ same. false≢true (sym (same r.left) ∙ not_none r h)), k, ((λ same. false≢true (same r.left ∙ not_none r h)), tt, tt));
   values = (rect_has_columns r h, (no_columns, tt));

@@ -1,12 +1,55 @@
 //! Lists of rectangles.
 
-ghost use Rattle.std.specs.Prelude.{◌≡◌, map, IfOk};
+ghost use Rattle.std.specs.Prelude.{◌≡◌, ◌↔◌, ◌+ℤ◌, map, IfOk, IsTrue};
 ghost use Rattle.std.specs.List.{All};
 ghost use Rattle.geom_base.specs.Points.{is_in_some, moved_rect};
 ghost use Rattle.region.specs.Moved.{CanMove};
+ghost use Rattle.region.specs.Window.{IsEdge, HasEdges, Within};
 
 use geom_base::{Point, Rect};
 use std::alloc::{AllocError, Global};
+
+/// The least coordinate of an edge.
+const LEAST_EDGE: i64 = -32768;
+
+/// The greatest coordinate of an edge.
+const GREATEST_EDGE: i64 = 32767;
+
+/// Whether a coordinate moved is one of an edge.
+fn is_edge(from: i32, by: i32) -> bool
+    ensures { IsTrue result ↔ IsEdge (from +ℤ by) }
+{
+    let moved = i64::from(from) + i64::from(by);
+    LEAST_EDGE <= moved && moved <= GREATEST_EDGE
+}
+
+/// Whether all edges of a rectangle moved are coordinates of edges.
+fn has_edges(rect: &Rect, by: &Point) -> bool
+    ensures { IsTrue result ↔ HasEdges (moved_rect rect.now by.now) }
+{
+    if !is_edge(rect.left, by.x) {
+        return false;
+    }
+    if !is_edge(rect.top, by.y) {
+        return false;
+    }
+    if !is_edge(rect.right, by.x) {
+        return false;
+    }
+    is_edge(rect.bottom, by.y)
+}
+
+/// Whether all edges of the rectangles moved are coordinates of edges.
+pub fn are_within(rects: &[Rect], by: &Point) -> bool
+    ensures { IsTrue result ↔ Within (map (λ rect. moved_rect rect by.now) rects.now) }
+{
+    for rect in rects {
+        if !has_edges(rect, by) {
+            return false;
+        }
+    }
+    true
+}
 
 /// Each rectangle moved.
 pub fn moved_rects(alloc: Global, rects: &[Rect], by: &Point) -> Result<Vec<Rect>, AllocError>

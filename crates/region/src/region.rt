@@ -1,8 +1,8 @@
 //! Sets of points.
 
-ghost use Rattle.std.specs.Prelude.{◌≡◌, ◌≤◌, ◌||◌, ◌&&◌, not, length, IfOk, if◌then◌else◌};
+ghost use Rattle.std.specs.Prelude.{◌≡◌, ◌≤◌, ◌↔◌, ◌||◌, ◌&&◌, not, length, map, IfOk, IsTrue, if◌then◌else◌};
 ghost use Rattle.std.specs.List.{All, AllPairs};
-ghost use Rattle.geom_base.specs.Points.{is_in, is_in_some, AreApart};
+ghost use Rattle.geom_base.specs.Points.{is_in, is_in_some, moved_rect, AreApart};
 ghost use Rattle.region.specs.BandList.{IsCounted, AreCanonical};
 ghost use Rattle.region.specs.Moved.{CanMove, moved_back};
 ghost use Rattle.region.specs.Operation.{holds_after};
@@ -11,11 +11,13 @@ ghost use Rattle.region.specs.Band.{Bands, has_point};
 ghost use Rattle.region.specs.Region.{IsRegion, RegionIsUnique, IsRegionOf};
 ghost use Rattle.region.specs.Order.{IsInOrder, RegionIsInOrder};
 ghost use Rattle.region.specs.Refusal.{IsAnswer};
+ghost use Rattle.region.specs.Window.{Within};
+ghost use Rattle.region.specs.Canonical.{CanonicalIsOfSet, AnswersAreCanonical};
 
 use crate::band::{Band, bands_of_rect, combined_bands, rects_of_bands};
 use crate::band_list::BandList;
 use crate::operation::Operation;
-use crate::rect_list::{any_holds, moved_rects};
+use crate::rect_list::{any_holds, are_within, moved_rects};
 use crate::refusal::RegionRefusal;
 use crate::scan::scanned_bands;
 use geom_base::{Point, Rect};
@@ -102,6 +104,14 @@ impl Region {
         any_holds(&self.rects, &p)
     }
 
+    /// Whether all edges moved are from -32768 to 32767.
+    pub fn can_offset(&self, by: Point) -> bool
+        ensures within { IsTrue result ↔ Within (map (λ rect. moved_rect rect by) self.now) }
+        ensures can_move { IsTrue result → All (CanMove by) self.now }
+    {
+        are_within(&self.rects, &by)
+    }
+
     /// The points moved.
     pub fn offset(&self, alloc: Global, by: Point) -> Result<Region, RegionRefusal>
         requires { All (CanMove by) self.now }
@@ -155,8 +165,10 @@ impl Region {
     }
 }
 
-/// Equal sets of points have equal rectangles, which are apart and in order.
+/// Equal sets of points have equal rectangles, which are apart and in order, and are those of the canonical list of the set.
 pub fn regions_are_canonical()
     ensures unique { RegionIsUnique }
     ensures in_order { RegionIsInOrder }
+    ensures canonical { CanonicalIsOfSet }
+    ensures answers { AnswersAreCanonical }
 {}

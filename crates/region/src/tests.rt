@@ -1,9 +1,6 @@
 //! Operations on small regions, and the limit.
 
-ghost use Rattle.std.specs.Prelude.{◌+ℤ◌, ◌<◌, FitsSigned, IsTrue};
-ghost use Rattle.std.specs.Int.{w32};
-ghost use Rattle.std.specs.List.{All};
-ghost use Rattle.region.specs.Moved.{CanMove};
+ghost use Rattle.std.specs.Prelude.{◌<◌};
 
 use super::*;
 use geom_base::{Point, Rect};
@@ -121,41 +118,6 @@ fn the_same_in_another_order(rt: HostRuntime) -> Result<(), Fail> {
     compare(&rt, rt.alloc(), &case)
 }
 
-/// Whether a sum is a coordinate.
-fn fits(a: i32, b: i32) -> bool
-    ensures { IsTrue result → FitsSigned w32 (a +ℤ b) }
-{
-    a.checked_add(b).is_some()
-}
-
-/// Whether a rectangle can be moved.
-fn can_move(rect: &Rect, by: &Point) -> bool
-    ensures { IsTrue result → CanMove by.now rect.now }
-{
-    if !fits(rect.left, by.x) {
-        return false;
-    }
-    if !fits(rect.top, by.y) {
-        return false;
-    }
-    if !fits(rect.right, by.x) {
-        return false;
-    }
-    fits(rect.bottom, by.y)
-}
-
-/// Whether all of some rectangles can be moved.
-fn can_all_move(rects: &[Rect], by: &Point) -> bool
-    ensures { IsTrue result → All (CanMove by.now) rects.now }
-{
-    for rect in rects {
-        if !can_move(rect, by) {
-            return false;
-        }
-    }
-    true
-}
-
 #[test]
 fn moved_tested_and_clipped(rt: HostRuntime) -> Result<(), Fail> {
     let alloc = rt.alloc();
@@ -170,7 +132,7 @@ fn moved_tested_and_clipped(rt: HostRuntime) -> Result<(), Fail> {
         assert_eq!(rt; region.holds(Point { x, y }), want, "{x} {y}");
     }
     let by = Point { x: -3, y: 5 };
-    assert!(rt; can_all_move(region.rects(), &by));
+    assert!(rt; region.can_offset(by));
     assert_eq!(rt;
         region.offset(alloc, by)?.rects(),
         [rect(-3, 5, 1, 7), rect(-3, 7, -1, 9)].as_slice()
@@ -179,6 +141,25 @@ fn moved_tested_and_clipped(rt: HostRuntime) -> Result<(), Fail> {
         region.clipped(alloc, &rect(1, 1, 9, 3))?.as_slice(),
         [rect(1, 1, 4, 2), rect(1, 2, 2, 3)].as_slice()
     );
+    Ok(())
+}
+
+#[test]
+fn moved_to_the_last_edges(rt: HostRuntime) -> Result<(), Fail> {
+    let region = Region::from_rects(rt.alloc(), &[rect(0, 0, 4, 2), rect(0, 2, 2, 4)])?;
+    for (x, y, want) in [
+        (0, 0, true),
+        (32763, 32763, true),
+        (32764, 0, false),
+        (0, 32764, false),
+        (-32768, -32768, true),
+        (-32769, 0, false),
+        (0, -32769, false),
+        (i32::MAX, 0, false),
+        (0, i32::MIN, false),
+    ] {
+        assert_eq!(rt; region.can_offset(Point { x, y }), want, "{x} {y}");
+    }
     Ok(())
 }
 

@@ -38,15 +38,15 @@ impl Rop4 {
 }
 
 /// What the code for this bit of the mask gives of the low bits of three values; the other bits are 0.
+///
+/// Both codes are worked out, so that a row of masks takes no branches.
 #[inline]
 pub fn rop4_bits(rop: Rop4, m: bool, p: u32, s: u32, d: u32, bits: u32) -> u32
     requires { bits ≤ 32 }
     ensures value { result ≡ rop4_of rop.code m p s d bits }
     ensures narrow { result < 2 ^ bits }
 {
-    if m {
-        rop3(rop.set_code(), p, s, d, bits)
-    } else {
-        rop3(rop.clear_code(), p, s, d, bits)
-    }
+    let set = rop3(rop.set_code(), p, s, d, bits);
+    let clear = rop3(rop.clear_code(), p, s, d, bits);
+    if m { set } else { clear }
 }

@@ -3,12 +3,13 @@ use Rattle.std.proofs.lemmas.List.{places, get_or-take, get_or-drop}
 use Rattle.std.proofs.Math.Nat.{add-mul}
 use Rattle.pix_format.specs.Value.{bits_of}
 use Rattle.pix_format.specs.declared.format.Format.{Format}
+use Rattle.pix_format.specs.declared.format.Format.TheVariants.{B1, B4, B8, B555, B565, B24, B32}
 use Rattle.surf_obj.specs.Layout.{Layout, row_start, row_bytes, pixel_in, values_in, SamePadding}
 use Rattle.surf_obj.specs.Bytes.{ChangesOnly}
-use Rattle.surf_obj.specs.Runs.{listed}
+use Rattle.surf_obj.specs.Runs.{listed, copied}
 use Rattle.geom_base.specs.declared.point.Point.{Point}
 use Rattle.surf_obj.specs.Surface.{value_at, value_after, point_at, redrawn}
-use Rattle.surf_obj.proofs.LayoutLemmas.{pixel_in-moved, run-fits, get_or-values_in, bits-le, wide, pixel-stays, SamePadding-write, KeepsAfter-bytes}
+use Rattle.surf_obj.proofs.LayoutLemmas.{pixel_in-same, pixel_in-moved, run-fits, get_or-values_in, bits-le, wide, pixel-stays, SamePadding-write, KeepsAfter-bytes}
 use Rattle.surf_obj.proofs.RunLemmas.{in_row, values_in-run}
 use borrow.Rule.Slice.PartMut.{put_mid}
 
@@ -106,3 +107,40 @@ part-padding l old new x y from to at fits whole h count hx hy place only =
 -- the new value of a listed pixel
 pub listed-at : (values : List ℕ) (x y k d : ℕ) → value_after (listed values x) (point_at (x + k) y) d ≡ get_or values k 0
 listed-at values x y k d = ap (λ i. get_or values i 0) (past_first x k)
+
+-- two places of one bit of a byte stay so a part further on
+pub same-start : (f : Format) (x sx from : ℕ) → x * bits_of f % 8 ≡ sx * bits_of f % 8 → (x + from) * bits_of f % 8 ≡ 0 → (sx + from) * bits_of f % 8 ≡ 0
+same-start f x sx from same whole = omega (arith, same, whole, add-mul x from (bits_of f), add-mul sx from (bits_of f))
+
+-- pixels of whole bytes are whole bytes together
+pub whole-bytes : (f : Format) (n : ℕ) → bits_of f % 8 ≡ 0 → n * bits_of f % 8 ≡ 0
+whole-bytes B1 n h = absurd (omega (arith, h))
+whole-bytes B4 n h = absurd (omega (arith, h))
+whole-bytes B8 n h = omega arith
+whole-bytes B555 n h = omega arith
+whole-bytes B565 n h = omega arith
+whole-bytes B24 n h = omega arith
+whole-bytes B32 n h = omega arith
+
+-- the bytes of a part of a row lie in the bits
+pub part-room : (l : Layout) (x y from to at len bound : ℕ) → row_bytes l.format l.size.w ≤ l.stride → l.size.h * l.stride ≤ bound → (x + from) * bits_of l.format % 8 ≡ 0 → from ≤ to →
+    (to - from) * bits_of l.format % 8 ≡ 0 → x + to ≤ l.size.w → y < l.size.h → at ≡ row_start l y + (x + from) * bits_of l.format / 8 → len ≡ (to - from) * bits_of l.format / 8 → at + len ≤ bound
+part-room l x y from to at len bound fits rows whole h count hx hy place long = omega (arith, place, long, count, rows, part-fits l x y from to whole h count hx hy fits)
+
+-- whole bytes of so many pixels
+pub part-bytes : (f : Format) (n at len : ℕ) (old new : List ℕ) → n * bits_of f % 8 ≡ 0 → len ≡ n * bits_of f / 8 → ChangesOnly at (at + len) old new → ChangesOnly at (at + row_bytes f n) old new
+part-bytes f n at len old new count long only = let same : row_bytes f n ≡ len = omega (arith, count, long) in rw same only
+
+-- a part of a row to which the bytes of a part of another row were copied has its values
+pub part-copied : (l m : Layout) (old new seen : List ℕ) (x y sx sy from to at first len : ℕ) → m.format ≡ l.format → row_bytes l.format l.size.w ≤ l.stride → (x + from) * bits_of l.format % 8 ≡ 0 → (sx + from) * bits_of l.format % 8 ≡ 0 →
+    from ≤ to → (to - from) * bits_of l.format % 8 ≡ 0 → x + to ≤ l.size.w → y < l.size.h → sx + to ≤ m.size.w → sy < m.size.h →
+    at ≡ row_start l y + (x + from) * bits_of l.format / 8 → first ≡ row_start m sy + (sx + from) * bits_of l.format / 8 → len ≡ (to - from) * bits_of l.format / 8 →
+    ((k : ℕ) → k < len → get_or new (at + k) 0 ≡ get_or seen (first + k) 0) → ChangesOnly at (at + len) old new →
+    values_in l new ≡ redrawn l.size (values_in l old) (in_row (x + from) (x + to) y) (copied m.size (values_in m seen) sx sy x)
+part-copied l m old new seen x y sx sy from to at first len same fits whole there h count hx hy hsx hsy place source long each only =
+    part-written l old new x y from to at (copied m.size (values_in m seen) sx sy x) fits whole h count hx hy place
+    (λ k lo hi.
+    pixel_in-same l.format new seen at first (k - from) (λ c a b. each c (omega (arith, long, count, b, bits-le l.format (k - from + 1) (to - from) (omega arith))))
+    ∙ rw (← same) (part-values m seen sx sy from first k (rw same there) (rw same source) lo (omega arith) hsy)
+    ∙ ap (λ i. value_at m.size (values_in m seen) (sx + i) sy) (sym (past_first x k)))
+    (part-bytes l.format (to - from) at len old new count long only)

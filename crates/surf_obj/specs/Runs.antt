@@ -1,7 +1,9 @@
 -- Runs of pixels in one row.
-use Rattle.std.specs.Prelude.{ℕ, pos, ◌-◌, ◌+ℤ◌, List, Option, Some, slice_index, unsigned_abs}
+use Rattle.std.specs.Prelude.{ℕ, pos, ◌+◌, ◌-◌, ◌+ℤ◌, List, Option, Some, slice_index, unsigned_abs}
 use Rattle.geom_base.specs.declared.point.Point.{Point}
 use Rattle.geom_base.specs.declared.rect.Rect.{Rect}
+use Rattle.geom_base.specs.declared.size.Size.{Size}
+use Rattle.surf_obj.specs.Surface.{value_at}
 pub use Rattle.geom_base.specs.Points.{box_of}
 
 -- so many pixels of a row, from a point on
@@ -15,3 +17,7 @@ listed values left p d = Some (slice_index values (unsigned_abs p.x - left))
 -- the change to one value
 abbrev pub solid : ℕ → Point → ℕ → Option ℕ
 solid value p d = Some value
+
+-- the change to the values of a row of a surface; its column `from` belongs to the column `left`
+abbrev pub copied : Size → List ℕ → ℕ → ℕ → ℕ → Point → ℕ → Option ℕ
+copied size values from row left p d = Some (value_at size values (from + (unsigned_abs p.x - left)) row)

@@ -1,13 +1,14 @@
 //! A surface on bits that were lent to be drawn on.
 
-ghost use Rattle.std.specs.Prelude.{◌≡◌, ◌≤◌, ◌<◌, ◌+◌, ◌-◌, ◌*◌, ◌%◌, ◌^◌, ◌+ℤ◌, pos, length, slice_set, slice_index, slice_range, EachIndex, All, IfOk, IfErr, unsigned_abs};
+ghost use Rattle.std.specs.Prelude.{◌≡◌, ◌≤◌, ◌<◌, ◌+◌, ◌-◌, ◌*◌, ◌/◌, ◌%◌, ◌^◌, ◌+ℤ◌, ℕ, pos, length, slice_set, slice_index, slice_range, EachIndex, All, IfOk, IfErr, unsigned_abs};
 ghost use Rattle.geom_base.specs.Points.{is_in, IsIn, LiesIn};
 ghost use Rattle.pix_format.specs.Value.{bits_of};
 ghost use Rattle.surf_obj.specs.Layout.{layout_from, row_bytes, row_start, rows_start, delta_of, HasSides};
 ghost use Rattle.surf_obj.specs.Refusals.{Refuses};
-ghost use Rattle.surf_obj.specs.Runs.{box_of, run_of, listed, solid};
+ghost use Rattle.surf_obj.specs.Runs.{box_of, copied, run_of, listed, solid};
 ghost use Rattle.surf_obj.specs.Surface.{value_at, value_of_point, place_of, whole, redrawn};
 
+use crate::copies::{copy_bytes, move_bytes};
 use crate::fills::fill_values;
 use crate::layout::{bits_of, coordinate, row_start, rows_range, whole_part};
 use crate::pixels::put_value;
@@ -109,7 +110,7 @@ impl<'a> LentSurf<'a> {
 
 impl LentSurf<'_> {
     ghost use Rattle.surf_obj.specs.Lent.{bytes_of, values_of, size_of, format_of, layout_of, OnlyPixels};
-    ghost use Rattle.surf_obj.specs.View.{view_bytes, view_layout};
+    ghost use Rattle.surf_obj.specs.View.{view_bytes, view_format, view_layout, view_size, view_values};
 
     /// The same surface, to be read.
     pub fn as_view(&self) -> LentView<'_>
@@ -159,6 +160,15 @@ impl LentSurf<'_> {
         ensures { result ≡ row_start (layout_of self.now) y }
     {
         row_start(self.size, self.stride, self.bottom_up, y)
+    }
+
+    /// The byte at which a column of a row begins, or in which it lies.
+    fn place(&self, x: usize, y: u32) -> usize
+        requires column { x ≤ (size_of self.now).w }
+        requires row { y < (size_of self.now).h }
+        ensures { result ≡ row_start (layout_of self.now) y + x * bits_of (format_of self.now) / 8 }
+    {
+        self.row_start(y) + x * bits_of(self.format) as usize / 8
     }
 
     /// The value at a column of a row.
@@ -325,6 +335,107 @@ impl LentSurf<'_> {
         let first = (x as usize + from) * bits_of(self.format) as usize / 8;
         let at = self.row_start(y) + first;
         fill_values(self.bits, at, self.format, to - from, value);
+    }
+
+    /// Copies so many pixels of a row of a surface of the same format. Both runs begin at the same bit of a byte.
+    pub fn copy_run(
+        &mut self,
+        x: u32,
+        y: u32,
+        len: usize,
+        source: &LentView<'_>,
+        from_x: u32,
+        from_y: u32,
+    )
+        requires format { view_format source.now ≡ format_of self.old }
+        requires columns { x + len ≤ (size_of self.old).w }
+        requires row { y < (size_of self.old).h }
+        requires source_columns { from_x + len ≤ (view_size source.now).w }
+        requires source_row { from_y < (view_size source.now).h }
+        requires bit { x * bits_of (format_of self.old) % 8 ≡ from_x * bits_of (format_of self.old) % 8 }
+        ensures values { values_of self.new ≡ redrawn (size_of self.old) (values_of self.old) (λ p. is_in p (box_of x y (x + len) (y + 1))) (copied (view_size source.now) (view_values source.now) from_x from_y x) }
+        ensures fit { (k : ℕ) → k < len → value_at (view_size source.now) (view_values source.now) (from_x + k) from_y < 2 ^ bits_of (format_of self.old) }
+        ensures only { OnlyPixels self.old self.new }
+    {
+        let (from, to) = whole_part(self.format, x, len);
+        self.copy_each(x, y, 0, from, source, from_x, from_y);
+        self.copy_whole(x, y, from, to, source, from_x, from_y);
+        self.copy_each(x, y, to, len, source, from_x, from_y);
+    }
+
+    /// Copies a part of a run pixel by pixel.
+    fn copy_each(
+        &mut self,
+        x: u32,
+        y: u32,
+        from: usize,
+        to: usize,
+        source: &LentView<'_>,
+        from_x: u32,
+        from_y: u32,
+    )
+        requires order { from ≤ to }
+        requires format { view_format source.now ≡ format_of self.old }
+        requires columns { x + to ≤ (size_of self.old).w }
+        requires row { y < (size_of self.old).h }
+        requires source_columns { from_x + to ≤ (view_size source.now).w }
+        requires source_row { from_y < (view_size source.now).h }
+        ensures values { values_of self.new ≡ redrawn (size_of self.old) (values_of self.old) (λ p. is_in p (box_of (x + from) y (x + to) (y + 1))) (copied (view_size source.now) (view_values source.now) from_x from_y x) }
+        ensures only { OnlyPixels self.old self.new }
+    {
+        for i in from..to {
+            let value = source.pixel(from_x + i as u32, from_y);
+            self.set_pixel(x + i as u32, y, value);
+        }
+    }
+
+    /// Copies the part of a run that is whole bytes.
+    fn copy_whole(
+        &mut self,
+        x: u32,
+        y: u32,
+        from: usize,
+        to: usize,
+        source: &LentView<'_>,
+        from_x: u32,
+        from_y: u32,
+    )
+        requires order { from ≤ to }
+        requires format { view_format source.now ≡ format_of self.old }
+        requires columns { x + to ≤ (size_of self.old).w }
+        requires row { y < (size_of self.old).h }
+        requires source_columns { from_x + to ≤ (view_size source.now).w }
+        requires source_row { from_y < (view_size source.now).h }
+        requires start { from < to → (x + from) * bits_of (format_of self.old) % 8 ≡ 0 }
+        requires source_start { from < to → (from_x + from) * bits_of (format_of self.old) % 8 ≡ 0 }
+        requires count { (to - from) * bits_of (format_of self.old) % 8 ≡ 0 }
+        ensures values { values_of self.new ≡ redrawn (size_of self.old) (values_of self.old) (λ p. is_in p (box_of (x + from) y (x + to) (y + 1))) (copied (view_size source.now) (view_values source.now) from_x from_y x) }
+        ensures only { OnlyPixels self.old self.new }
+    {
+        if from == to {
+            return;
+        }
+        let at = self.place(x as usize + from, y);
+        let first = source.place(from_x as usize + from, from_y);
+        let len = (to - from) * bits_of(self.format) as usize / 8;
+        copy_bytes(self.bits, at, source.bytes(), first, len);
+    }
+
+    /// Copies so many pixels of a row of the surface to others of it, all at once. The pixels are whole bytes.
+    pub fn move_run(&mut self, x: u32, y: u32, len: usize, from_x: u32, from_y: u32)
+        requires columns { x + len ≤ (size_of self.old).w }
+        requires row { y < (size_of self.old).h }
+        requires source_columns { from_x + len ≤ (size_of self.old).w }
+        requires source_row { from_y < (size_of self.old).h }
+        requires whole { bits_of (format_of self.old) % 8 ≡ 0 }
+        ensures values { values_of self.new ≡ redrawn (size_of self.old) (values_of self.old) (λ p. is_in p (box_of x y (x + len) (y + 1))) (copied (size_of self.old) (values_of self.old) from_x from_y x) }
+        ensures fit { (k : ℕ) → k < len → value_at (size_of self.old) (values_of self.old) (from_x + k) from_y < 2 ^ bits_of (format_of self.old) }
+        ensures only { OnlyPixels self.old self.new }
+    {
+        let at = self.place(x as usize, y);
+        let first = self.place(from_x as usize, from_y);
+        let len = len * bits_of(self.format) as usize / 8;
+        move_bytes(self.bits, at, first, len);
     }
 
     /// Writes one value to so many pixels from a point on.

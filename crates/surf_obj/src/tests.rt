@@ -259,3 +259,59 @@ fn every_alignment_of_a_short_row(rt: HostRuntime) {
         }
     }
 }
+
+/// Copies a run of a row of eleven pixels to the same columns, and compares the bytes with those of values written.
+fn copies(rt: &impl Abort, format: Format, x: u32, count: usize)
+    requires { x + count ≤ 11 }
+{
+    let values = sample(format);
+    let mut picture = [0xa5u8; 44];
+    let mut bytes = [0x5au8; 44];
+    let mut plain = [0x5au8; 44];
+    {
+        let mut surface = LentSurf::on(&mut picture, ELEVEN, format, 44, false);
+        surface.write_run(0, 0, &values);
+    }
+    let source = LentView::on(&picture, ELEVEN, format, 44, false);
+    {
+        let mut surface = LentSurf::on(&mut bytes, ELEVEN, format, 44, false);
+        surface.copy_run(x, 0, count, &source, x, 0);
+    }
+    {
+        let mut surface = LentSurf::on(&mut plain, ELEVEN, format, 44, false);
+        surface.write_run(x, 0, &values[x as usize..x as usize + count]);
+    }
+    assert_eq!(rt;
+        bytes.as_slice(),
+        plain.as_slice(),
+        "{format:?} from {x}, {count} pixels"
+    );
+}
+
+#[test]
+fn every_part_of_a_short_row_is_copied(rt: HostRuntime) {
+    let formats = [
+        Format::B1,
+        Format::B4,
+        Format::B8,
+        Format::B565,
+        Format::B24,
+        Format::B32,
+    ];
+    for format in formats {
+        for x in 0..11 {
+            for count in 0..12 - x {
+                copies(&rt, format, x, count as usize);
+            }
+        }
+    }
+}
+
+#[test]
+fn runs_move_within_a_row(rt: HostRuntime) {
+    let mut bytes = [1, 2, 3, 4, 5, 6, 7, 8, 9, 10, 11];
+    let mut surface = LentSurf::on(&mut bytes, ELEVEN, Format::B8, 11, false);
+    surface.move_run(2, 0, 5, 0, 0);
+    surface.move_run(0, 0, 3, 4, 0);
+    assert_eq!(rt; bytes, [3, 4, 5, 2, 3, 4, 5, 8, 9, 10, 11]);
+}

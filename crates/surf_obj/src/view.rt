@@ -1,6 +1,6 @@
 //! A surface on bits that are only read.
 
-ghost use Rattle.std.specs.Prelude.{◌≡◌, ◌≤◌, ◌<◌, ◌⊎◌, ◌+◌, ◌*◌, ◌-◌, ◌%◌, ◌^◌, ◌+ℤ◌, pos, ℕ, length, slice_index, EachIndex, All, IfOk, IfErr};
+ghost use Rattle.std.specs.Prelude.{◌≡◌, ◌≤◌, ◌<◌, ◌⊎◌, ◌+◌, ◌*◌, ◌-◌, ◌/◌, ◌%◌, ◌^◌, ◌+ℤ◌, pos, ℕ, length, slice_index, EachIndex, All, IfOk, IfErr};
 ghost use Rattle.geom_base.specs.Points.{IsIn, LiesIn};
 ghost use Rattle.pix_format.specs.Value.{bits_of};
 ghost use Rattle.surf_obj.specs.Layout.{layout_from, row_bytes, row_start, delta_of, HasSides};
@@ -26,6 +26,7 @@ pub struct LentView<'a> {
     ghost rows: { size.h * stride ≤ length bits.now },
     ghost columns: { row_bytes format size.w ≤ stride },
     ghost sides: { HasSides size },
+    ghost items: { (k : ℕ) → slice_index bits.now k < 256 },
 }
 
 impl<'a> LentView<'a> {
@@ -74,7 +75,7 @@ impl<'a> LentView<'a> {
 }
 
 impl LentView<'_> {
-    ghost use Rattle.surf_obj.specs.View.{view_values, view_size, view_format, view_layout};
+    ghost use Rattle.surf_obj.specs.View.{view_bytes, view_values, view_size, view_format, view_layout};
 
     /// Its width and height.
     pub fn size(&self) -> Size
@@ -114,6 +115,22 @@ impl LentView<'_> {
         ensures { result ≡ row_start (view_layout self.now) y }
     {
         row_start(self.size, self.stride, self.bottom_up, y)
+    }
+
+    /// Its bytes.
+    pub(crate) fn bytes(&self) -> &[u8]
+        ensures { result.now ≡ view_bytes self.now }
+    {
+        self.bits
+    }
+
+    /// The byte at which a column of a row begins, or in which it lies.
+    pub(crate) fn place(&self, x: usize, y: u32) -> usize
+        requires column { x ≤ (view_size self.now).w }
+        requires row { y < (view_size self.now).h }
+        ensures { result ≡ row_start (view_layout self.now) y + x * bits_of (view_format self.now) / 8 }
+    {
+        self.row_start(y) + x * bits_of(self.format) as usize / 8
     }
 
     /// The value at a column of a row.

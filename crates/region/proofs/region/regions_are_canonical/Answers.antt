@@ -1,5 +1,6 @@
 use Rattle.region.proofs.RegionLemmas.{region_is_unique}
 use Rattle.region.proofs.OrderLemmas.{region_in_order}
+use Rattle.region.proofs.CanonicalLaws.{canonical_is_region, answer_is_canonical}
 use Rattle.region.proofs.region.regions_are_canonical.Goals as goal
 
 pub returns-clause-unique : goal.returns-clause-unique
@@ -7,3 +8,9 @@ returns-clause-unique c = region_is_unique
 
 pub returns-clause-in_order : goal.returns-clause-in_order
 returns-clause-in_order c = region_in_order
+
+pub returns-clause-canonical : goal.returns-clause-canonical
+returns-clause-canonical c = canonical_is_region
+
+pub returns-clause-answers : goal.returns-clause-answers
+returns-clause-answers c = answer_is_canonical

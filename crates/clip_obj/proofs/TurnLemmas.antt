@@ -1,0 +1,96 @@
+-- Bands that are turned round.
+use Rattle.std.proofs.Common.{◌≡◌, ◌∙◌, ℕ, take, drop, ℤ, List, [], ◌∷◌, ◌++◌, Bool, true, false, cond, refl, ap, sym, ◌⊎◌, inl, inr, reverse}
+use Rattle.std.specs.Ordering.{int_eq}
+use Rattle.std.specs.List.{All}
+use Rattle.std.specs.List.Sorted.{IsPermutation}
+use Rattle.std.proofs.lemmas.Bool.{false≢true}
+use Rattle.std.proofs.lemmas.Bool.Decides.{Decides-int_eq}
+use Rattle.std.proofs.lemmas.Grind.{reverse_onto}
+use Rattle.std.proofs.lemmas.List.{take-append-drop}
+use Rattle.std.proofs.lemmas.List.Elements.{All-head, All-tail}
+use Rattle.std.proofs.lemmas.List.Sorted.{IsPermutation-refl, IsPermutation-reverse, IsPermutation-cons, IsPermutation-middle, IsPermutation-sym, IsPermutation-trans, All-permutation}
+use Rattle.geom_base.specs.declared.rect.Rect.{Rect}
+use Rattle.clip_obj.specs.Order.{behind_band, turned, BeginsElsewhere}
+
+-- the test of two rows
+pub same_row : (a b : ℤ) → a ≡ b → int_eq a b ≡ true
+same_row a b e = (Decides-int_eq a b).1 e
+
+pub other_row : (a b : ℤ) → (¬ (a ≡ b)) → int_eq a b ≡ false
+other_row a b n = no (int_eq a b) (λ t. n ((Decides-int_eq a b).0 t))
+  where
+    no : (t : Bool) → (t ≡ true → ⊥) → t ≡ false
+    no true h = absurd (h refl)
+    no false h = refl
+
+-- either the first one begins in the row, or it doesn't
+pub by_row : (a b : ℤ) → (a ≡ b) ⊎ (¬ (a ≡ b))
+by_row a b = decide (int_eq a b) refl
+  where
+    decide : (t : Bool) → int_eq a b ≡ t → (a ≡ b) ⊎ (¬ (a ≡ b))
+    decide true e = inl ((Decides-int_eq a b).0 e)
+    decide false e = inr (λ same. false≢true (sym e ∙ (Decides-int_eq a b).1 same))
+
+-- a rectangle passes those of its row
+passes : (r : Rect) (xs ys : List Rect) → All (λ s. s.top ≡ r.top) xs → behind_band r (xs ++ ys) ≡ xs ++ behind_band r ys
+passes r [] ys h = refl
+passes r (s ∷ xs) ys h =
+    ap (λ (t : Bool). cond t (s ∷ behind_band r (xs ++ ys)) (r ∷ s ∷ (xs ++ ys))) (same_row s.top r.top (All-head (λ t. t.top ≡ r.top) s xs h))
+    ∙ ap (λ (l : List Rect). s ∷ l) (passes r xs ys (All-tail (λ t. t.top ≡ r.top) s xs h))
+
+-- and stays before others
+stays : (r : Rect) (ys : List Rect) → BeginsElsewhere r.top ys → behind_band r ys ≡ r ∷ ys
+stays r [] h = refl
+stays r (s ∷ ys) h = ap (λ (t : Bool). cond t (s ∷ behind_band r ys) (r ∷ s ∷ ys)) (other_row s.top r.top h)
+
+begins_by : (s t : Rect) (top : ℤ) (b : Bool) (xs ys : List Rect) → int_eq t.top s.top ≡ b → (¬ (s.top ≡ top)) → BeginsElsewhere top (cond b (t ∷ xs) (s ∷ ys))
+begins_by s t top true xs ys e n = λ same. n (sym ((Decides-int_eq t.top s.top).0 e) ∙ same)
+begins_by s t top false xs ys e n = n
+
+-- turning keeps the row in which the first one begins
+turned_begins : (top : ℤ) (rects : List Rect) → BeginsElsewhere top rects → BeginsElsewhere top (turned rects)
+turned_begins top [] h = tt
+turned_begins top (s ∷ rects) h = first (turned rects)
+  where
+    first : (xs : List Rect) → BeginsElsewhere top (behind_band s xs)
+    first [] = h
+    first (t ∷ xs) = begins_by s t top (int_eq t.top s.top) (behind_band s xs) (t ∷ xs) refl h
+
+pub append_later : (xs ys zs : List Rect) → xs ++ (ys ++ zs) ≡ (xs ++ ys) ++ zs
+append_later [] ys zs = refl
+append_later (x ∷ xs) ys zs = ap (λ (l : List Rect). x ∷ l) (append_later xs ys zs)
+
+-- a band and the rest are turned one after the other
+pub turned_band : (top : ℤ) (band rest : List Rect) → All (λ r. r.top ≡ top) band → BeginsElsewhere top rest → turned (band ++ rest) ≡ reverse band ++ turned rest
+turned_band top [] rest h n = refl
+turned_band top (r ∷ band) rest h n =
+    let row : r.top ≡ top = All-head (λ s. s.top ≡ top) r band h in
+    let others : All (λ s. s.top ≡ top) band = All-tail (λ s. s.top ≡ top) r band h in
+    let back : All (λ s. s.top ≡ r.top) (reverse band) = All-permutation (λ s. s.top ≡ r.top) band (reverse band) (IsPermutation-reverse band) (λ k d lt. others k d lt ∙ sym row) in
+    ap (behind_band r) (turned_band top band rest others n)
+    ∙ passes r (reverse band) (turned rest) back
+    ∙ ap (λ (l : List Rect). reverse band ++ l) (stays r (turned rest) (rw row (turned_begins top rest n)))
+    ∙ append_later (reverse band) (r ∷ []) (turned rest)
+    ∙ ap (λ (l : List Rect). l ++ turned rest) (sym (reverse_onto band r []))
+
+-- one band more
+pub turn_next : (top : ℤ) (n : ℕ) (out rest new later front all : List Rect) → All (λ r. r.top ≡ top) (take n rest) → BeginsElsewhere top (drop n rest) →
+    new ≡ out ++ reverse front → front ≡ take n rest → later ≡ drop n rest → out ++ turned rest ≡ all → new ++ turned later ≡ all
+turn_next top n out rest new later front all band next is first second so =
+    rw (is, first, second)
+    (sym (append_later out (reverse (take n rest)) (turned (drop n rest)))
+    ∙ ap (λ (l : List Rect). out ++ l) (sym (turned_band top (take n rest) (drop n rest) band next) ∙ ap turned (take-append-drop n rest))
+    ∙ so)
+
+-- turning rearranges
+behind_rearranges : (r : Rect) (xs : List Rect) → IsPermutation (r ∷ xs) (behind_band r xs)
+behind_rearranges r [] = IsPermutation-refl (r ∷ [])
+behind_rearranges r (s ∷ xs) = either (behind_rearranges r xs) (int_eq s.top r.top)
+  where
+    either : IsPermutation (r ∷ xs) (behind_band r xs) → (b : Bool) → IsPermutation (r ∷ s ∷ xs) (cond b (s ∷ behind_band r xs) (r ∷ s ∷ xs))
+    either next true = IsPermutation-trans (r ∷ s ∷ xs) (s ∷ r ∷ xs) (s ∷ behind_band r xs) (IsPermutation-sym (s ∷ r ∷ xs) (r ∷ s ∷ xs) (IsPermutation-middle (s ∷ []) r xs)) (IsPermutation-cons s (r ∷ xs) (behind_band r xs) next)
+    either next false = IsPermutation-refl (r ∷ s ∷ xs)
+
+pub turned_rearranges : (rects : List Rect) → IsPermutation rects (turned rects)
+turned_rearranges [] = IsPermutation-refl []
+turned_rearranges (r ∷ rects) = IsPermutation-trans (r ∷ rects) (r ∷ turned rects) (behind_band r (turned rects)) (IsPermutation-cons r rects (turned rects) (turned_rearranges rects)) (behind_rearranges r (turned rects))

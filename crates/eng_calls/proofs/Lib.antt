@@ -1,0 +1,4 @@
+pub mod HeartLemmas
+pub mod ShiftLemmas
+pub mod DrawLemmas
+pub mod CallLemmas
