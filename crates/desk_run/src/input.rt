@@ -83,3 +83,58 @@ pub fn read_input<'a>(alloc: Global, bytes: &'a [u8]) -> Result<Input<'a>, Input
     let script = read_lines(alloc, found)?;
     Ok(Input { config, script })
 }
+
+#[cfg(test)]
+mod tests {
+    use super::*;
+    use geom_base::Size;
+    use std::test::Fail;
+
+    const SCREEN: &str =
+        "[[screen]]\nkind = \"linear\"\nx = 0\ny = 0\nwidth = 4\nheight = 2\nformat = \"8\"\n";
+
+    #[test]
+    fn commands_are_read_in_order(rt: HostRuntime) -> Result<(), Fail> {
+        let alloc = rt.alloc();
+        let text = format!(in alloc;
+            "{SCREEN}%%\n# a comment\n  \nbrush b solid FF8000\npaint  screen 1 0 3 2 b 13 \r\ndump -0\nsum 0"
+        )?;
+        let input = read_input(alloc, text.as_bytes())?;
+        assert_eq!(rt; input.config.size, Size { w: 4, h: 2 });
+        assert_eq!(rt; input.script.commands().len(), 4);
+        Ok(())
+    }
+
+    #[test]
+    fn the_first_refusal_is_named(rt: HostRuntime) -> Result<(), Fail> {
+        let alloc = rt.alloc();
+        // What stands before and behind the screen, and the refusal: its line, or 0 for the configuration, and its number.
+        let cases = [
+            ("", "x%%\n", 0, 10),
+            ("", "%%\r", 0, 10),
+            ("", "\n%%\n", 0, 0),
+            ("# a comment\n", "%%\n", 0, 0),
+            ("", "%%\nframe", 9, 1),
+            ("", "%%\nbrush a pattern", 9, 2),
+            ("", "%%\npaint screen 1 0", 9, 2),
+            ("", "%%\npaint screen 0 0 1 1 #FF000 17", 9, 3),
+            ("", "%%\r\n#\ndump 1\ndump x", 10, 4),
+            ("", "%%\npaint none 0 0 1 1 #FF0000 13", 9, 5),
+            ("", "%%\ntable none 000000 G", 9, 6),
+            ("", "%%\nbrush 1 solid G", 9, 7),
+            ("", "%%\n\npaint screen 3 0 1 2 #FF0000 13", 10, 8),
+        ];
+        for (front, rest, line, number) in cases {
+            let text = format!(in alloc; "{front}{SCREEN}{rest}")?;
+            let bytes = text.as_bytes();
+            assert!(rt; bytes.len() < 1000);
+            let refusal = match read_input(alloc, bytes) {
+                Err(InputError::Refused(InputRefusal::Script { line, number })) => (line, number),
+                Err(InputError::Refused(InputRefusal::Config { number })) => (0, number),
+                _ => (u64::MAX, 0),
+            };
+            assert_eq!(rt; refusal, (line, number), "at {rest}");
+        }
+        Ok(())
+    }
+}

@@ -94,6 +94,39 @@ fn scripts_and_their_texts(rt: HostRuntime) -> Result<(), Fail> {
 }
 
 #[test]
+fn bitmaps_and_their_texts(rt: HostRuntime) -> Result<(), Fail> {
+    let cases = [
+        (
+            "bitmap t 4 1 8\npixels t 0 0 0a 0b 0c 0d\ncopy t 1 0 4 1 t 0 0\ndump t",
+            "dump t 4 1 8\n0a0a0b0c\nend 4\n",
+        ),
+        (
+            "bitmap s 2 1 8\npixels s 0 0 ff 00\nbitmap m 2 1 1\ncopy m 0 0 2 1 s 0 0\ndump m",
+            "dump m 2 1 1\n10\nend 5\n",
+        ),
+        (
+            "table g 000000 00FF00\nbitmap m 2 1 1 g\npixels m 0 0 0 1\ncopy screen 0 0 2 1 m 0 0\ndump 0",
+            "dump 0 4 2 8\n001c0000\n00000000\nend 5\n",
+        ),
+        (
+            "bitmap t 3 1 8\npixels t 0 0 01 02 03\nbitmap k 2 1 1\npixels k 0 0 1 0\nblt t 1 0 3 1 t 0 0 k 0 0 - AACC\ndump t\nbrush b pattern t\npaint screen 0 0 4 2 b 13\ndump 0",
+            "dump t 3 1 8\n010103\ndump 0 4 2 8\n01010301\n01010301\nend 9\n",
+        ),
+        (
+            "bitmap b 2 1 24\ndelete b\nbitmap b 3 1 4\npixels b -1 0 7 8 9 a b\npixels b 0 1 1\ndump b",
+            "dump b 3 1 4\n89a\nend 6\n",
+        ),
+    ];
+    for (script, want) in cases {
+        let bytes = input(rt.alloc(), script)?;
+        let (status, sink) = answer(rt.alloc(), "run", bytes, SMOOTH, SMOOTH)?;
+        assert_eq!(rt; status, Status::Done, "{script:?}");
+        assert_eq!(rt; sink.written(), want.as_bytes(), "{script:?}");
+    }
+    Ok(())
+}
+
+#[test]
 fn faults_of_streams(rt: HostRuntime) -> Result<(), Fail> {
     // The step and the failing call of the source and of the sink, the status, and how much of the text is written.
     let cases = [
