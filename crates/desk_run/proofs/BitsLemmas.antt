@@ -1,4 +1,4 @@
-use Rattle.std.proofs.Common.{◌≡◌, ℕ, ◌*◌, ◌+◌, ◌/◌, ◌%◌, ◌++◌, ◌∷◌, [], ◌<◌, true, false, List, get_or, take, length, Option, Some, None, Bor, refl, sym, ap, subst, ◌∙◌}
+use Rattle.std.proofs.Common.{◌≡◌, ℕ, ◌*◌, ◌+◌, ◌/◌, ◌%◌, ◌++◌, ◌∷◌, [], ◌<◌, false, List, get_or, take, length, Option, Some, None, Bor, refl, sym, ap, ◌∙◌}
 use Rattle.std.specs.Option.{option_copied}
 use Rattle.std.specs.Vec.{with_items}
 use Rattle.std.proofs.lemmas.List.{take_more, with_items_is}
@@ -12,7 +12,6 @@ use Rattle.surf_obj.specs.Layout.{Layout, values_in}
 use Rattle.surf_obj.specs.Object.{object_bytes, object_format, object_size, object_values, OnlyItsPixels}
 use Rattle.surf_obj.specs.Surface.{Surface, point_at, redrawn}
 use Rattle.surf_obj.specs.declared.object.SurfObj.{SurfObj}
-use Rattle.surf_obj.specs.View.{view_size, view_values}
 use Rattle.surf_obj.specs.declared.view.LentView.{LentView}
 use Rattle.surf_obj.proofs.LayoutLemmas.{length-values_in}
 use Rattle.surf_obj.proofs.StepLemmas.{redrawn_none, redrawn_same}

@@ -1,13 +1,10 @@
 use Rattle.std.proofs.Common.{◌≡◌, ℕ, Bool, true, false, List, [], ◌∷◌, ◌++◌, Option, Some, None, Result, Ok, Err, refl, sym, ap, ◌∙◌, append-nil, arith}
 use Rattle.std.specs.Prelude.{OnErr, is_ok, option_map, slice_set, nat_eq, if◌then◌else◌}
 use Rattle.std.proofs.lemmas.Bool.Decides.{nat_tests}
-use Rattle.std.specs.List.{flat_map}
 use Rattle.std.proofs.lemmas.List.{set-get_or}
 use Rattle.desk_io.specs.Sinks.{Puts, puts_as}
-use Rattle.geom_base.specs.declared.point.Point.{Point}
 use Rattle.surf_obj.specs.Surface.{Surface}
-use Rattle.surf_obj.specs.Changes.{changed, changed_nowhere}
-use Rattle.brush_obj.specs.Calls.{reach_of_call}
+use Rattle.surf_obj.specs.Changes.{changed_nowhere}
 use Rattle.script_read.specs.declared.desk_command.DeskCommand.{DeskCommand}
 use Rattle.script_read.specs.declared.desk_command.Spot.{Spot}
 use Rattle.script_read.specs.declared.desk_command.Spot.TheVariants as spots

@@ -1,16 +1,13 @@
-use Rattle.std.proofs.Common.{◌≡◌, ℕ, ◌*◌, ◌<◌, ◌≤◌, true, false, List, length, Option, Some, Result, Ok, Err, Bor, refl, sym, ap, ◌∙◌, arith}
-use Rattle.std.specs.Prelude.{OnErr, IsTrue, unwrap_or}
-use Rattle.std.specs.Option.{option_copied}
+use Rattle.std.proofs.Common.{◌≡◌, ℕ, ◌*◌, ◌≤◌, true, false, List, length, Result, Ok, Err, refl, sym, ap, ◌∙◌, arith}
+use Rattle.std.specs.Prelude.{OnErr}
 use Rattle.std.proofs.lemmas.Bool.Decides.{nat_tests}
 use Rattle.geom_base.specs.declared.rect.Rect.{Rect}
 use Rattle.geom_base.specs.declared.size.Size.{Size}
 use Rattle.geom_base.specs.Points.{is_in}
-use Rattle.pix_format.specs.declared.rgb.Rgb.{Rgb}
-use Rattle.pix_format.specs.Xlate.{Translation}
 use Rattle.surf_obj.specs.Changes.{Change, changed}
 use Rattle.surf_obj.specs.Surface.{Surface, point_at, whole}
 use Rattle.surf_obj.proofs.StepLemmas.{redrawn_none}
-use Rattle.brush_obj.specs.Calls.{reach_of_call, rect_of}
+use Rattle.brush_obj.specs.Calls.{rect_of}
 use Rattle.brush_obj.specs.declared.draw_call.DrawCall.{DrawCall}
 use Rattle.desk_run.specs.declared.part.Part.{Part}
 use Rattle.desk_run.specs.declared.source.Source.{Source}

@@ -1,10 +1,8 @@
-use Rattle.std.proofs.Common.{◌≡◌, ℕ, zero, suc, ◌+◌, ◌<◌, ◌≤◌, Bool, true, false, List, [], ◌∷◌, ◌++◌, length, take, drop, get_or, refl, sym, ap, subst, ◌∙◌, arith, append_assoc, append-nil, length-append, inl, inr, Option, add-zero, drop-cons}
+use Rattle.std.proofs.Common.{◌≡◌, ℕ, suc, ◌+◌, ◌<◌, ◌≤◌, Bool, true, false, List, [], ◌∷◌, ◌++◌, length, take, drop, get_or, refl, sym, ap, subst, ◌∙◌, arith, append_assoc, append-nil, length-append, inl, inr, Option, add-zero, drop-cons}
 use Rattle.std.specs.Prelude.{◌==◌, ◌&&◌}
-use Rattle.std.specs.List.{list_all}
-use Rattle.std.proofs.lemmas.List.{take_more, map-append, take_all, length-map, get_or_default}
+use Rattle.std.proofs.lemmas.List.{take_more, map-append, take_all, length-map}
 use Rattle.desk_io.specs.Sinks.{Puts, puts_nothing, puts_on}
 use Rattle.script_read.specs.declared.script_command.ScriptCommand.{ScriptCommand}
-use Rattle.script_read.specs.declared.script_command.ScriptCommand.TheVariants.{Nothing}
 use Rattle.desk_run.specs.declared.run.Ended.{Ended}
 use Rattle.desk_run.specs.declared.run.Ended.TheVariants as ended
 use Rattle.desk_run.specs.Desk.{State, carried}
@@ -139,10 +137,3 @@ module _ (names : BitmapNames) (commands : List ScriptCommand) (s now : State) (
     },
     so.shows,
   )
-
--- the command at a place; past the end it counts as one that asks nothing
-abbrev pub command_at : List ScriptCommand → ℕ → ScriptCommand
-command_at commands i = get_or commands i Nothing
-
-pub command_is : (commands : List ScriptCommand) (i : ℕ) → i < length commands → command_at commands i ≡ get_or commands i (command_at commands i)
-command_is commands i lt = get_or_default commands i Nothing (command_at commands i) lt

@@ -1,5 +1,5 @@
-use Rattle.std.proofs.Common.{◌≡◌, ℕ, zero, suc, ℤ, pos, ◌+◌, ◌-◌, ◌*◌, ◌<◌, ◌≤◌, ◌+ℤ◌, ◌-ℤ◌, ◌≤ℤ◌, true, false, List, length, take, drop, get_or, Option, Some, refl, sym, ap, ◌∙◌, arith, int_le, unsigned_abs, negsuc, length-take, length-drop}
-use Rattle.std.specs.Prelude.{if◌then◌else◌, option_map}
+use Rattle.std.proofs.Common.{◌≡◌, ℕ, suc, ℤ, pos, ◌+◌, ◌-◌, ◌*◌, ◌<◌, ◌≤◌, ◌+ℤ◌, ◌-ℤ◌, ◌≤ℤ◌, true, false, List, length, take, drop, get_or, Option, Some, refl, sym, ap, ◌∙◌, arith, negsuc, length-take, length-drop}
+use Rattle.std.specs.Prelude.{option_map}
 use Rattle.std.proofs.lemmas.Bool.Decides.{nat_tests}
 use Rattle.std.proofs.lemmas.Int.{ints}
 use Rattle.geom_base.specs.declared.point.Point.{Point}
@@ -100,11 +100,11 @@ module _ (call : CopyCall) (t : Surface) (values : List ℕ) (part : Part) (from
       let row = row_like t values in
       let v = get_or values (from + k) 0 in
       let at : source_value o call.rect call.src p ≡ Some v =
-        ap (λ (s : Option Surface). option_map (translated o.xlate) (value_in s (point_across call.rect call.src p))) given.source
-        ∙ ap (λ (x : Translation). option_map (translated x) (value_there row (point_across call.rect call.src p))) given.xlate
-        ∙ ap (λ (q : Point). option_map (translated (translation row t given.back)) (value_there row q)) (across k)
-        ∙ ap (option_map (translated (translation row t given.back))) (there (from + k) inside)
-        ∙ ap (λ (v : ℕ). Some v) (same given.back v) in
+      ap (λ (s : Option Surface). option_map (translated o.xlate) (value_in s (point_across call.rect call.src p))) given.source
+      ∙ ap (λ (x : Translation). option_map (translated x) (value_there row (point_across call.rect call.src p))) given.xlate
+      ∙ ap (λ (q : Point). option_map (translated (translation row t given.back)) (value_there row q)) (across k)
+      ∙ ap (option_map (translated (translation row t given.back))) (there (from + k) inside)
+      ∙ ap (λ (v : ℕ). Some v) (same given.back v) in
       copy-low call o p d v at
       ∙ ap (λ (f : Format). Some (rop4_of source_alone false 0 v 0 (bits_of f))) given.format
       ∙ ap (λ (v : ℕ). Some (rop4_of source_alone false 0 v 0 (bits_of t.format))) (sym (get_or-take _ (drop from values) k 0 (rw cut kept) ∙ get_or-drop from values k 0))

@@ -21,7 +21,6 @@ use Rattle.script_read.specs.declared.desk_command.Spot.{Spot}
 use Rattle.script_read.specs.declared.desk_command.Spot.TheVariants as spots
 use Rattle.script_read.specs.declared.named.Named.{Named}
 use Rattle.script_read.specs.declared.named.Named.TheVariants.{Screen, Bitmap}
-use Rattle.script_read.specs.declared.orders.BrushOrder.{BrushOrder}
 use Rattle.script_read.specs.declared.orders.FaceOrder.{FaceOrder}
 use Rattle.script_read.specs.declared.orders.FaceOrder.TheVariants.{Solid, Hatch, Pattern}
 use Rattle.script_read.specs.declared.script_command.ScriptCommand.{ScriptCommand}

@@ -1,5 +1,5 @@
 -- The checked input: a configuration and commands, or the first refusal.
-use Rattle.std.specs.Prelude.{◌≡◌, ℕ, ◌+◌, ◌*◌, ◌≤◌, ◌<◌, List, take, drop, length, codes, Option, Some, None, Result, Ok, Err, nat_lt, if◌then◌else◌}
+use Rattle.std.specs.Prelude.{◌≡◌, ℕ, ◌+◌, ◌≤◌, List, take, drop, length, codes, Option, Some, None, Result, Ok, Err, nat_lt, if◌then◌else◌}
 use Rattle.desk_io.specs.Sources.{most_bytes}
 use Rattle.script_read.specs.Asked.{Asked}
 use Rattle.desk_run.specs.declared.config.DeskConfig.{DeskConfig}

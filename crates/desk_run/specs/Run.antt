@@ -1,5 +1,5 @@
 -- A run: commands one after the other, and what is written of them.
-use Rattle.std.specs.Prelude.{◌≡◌, ℕ, ◌+◌, Bool, true, false, List, [], ◌∷◌, ◌++◌, length, map, take, drop, Option, Some, Result, Ok, Err, ◌⊎◌, ◌==◌}
+use Rattle.std.specs.Prelude.{◌≡◌, ℕ, ◌+◌, Bool, true, false, List, [], ◌∷◌, ◌++◌, length, map, take, drop, Option, Result, Ok, Err, ◌⊎◌, ◌==◌}
 use Rattle.std.specs.List.{flat_map, list_all}
 use Rattle.std.specs.Option.{option_map_or}
 use Rattle.std.specs.declared.alloc.AllocError.{AllocError}
@@ -12,7 +12,7 @@ use Rattle.desk_run.specs.declared.run.Ended.{Ended}
 use Rattle.desk_run.specs.declared.run.Given.{Given}
 use Rattle.desk_run.specs.declared.run.Given.TheVariants.{Whole, Wanting, Lacking, Broken}
 use Rattle.desk_run.specs.declared.run.Ended.TheVariants.{Done, MemorySeen, NoMemory, WriteFault}
-use Rattle.desk_run.specs.Reports.{Told, Cause, memory}
+use Rattle.desk_run.specs.Reports.{Told, memory}
 use Rattle.desk_run.specs.Desk.{State, surface_at, name_of, carried}
 use Rattle.desk_run.specs.Meeting.{Meets}
 use Rattle.desk_run.specs.Texts.{BitmapNames, report_text, dump_text, sum_text, end_text}

@@ -20,8 +20,8 @@ ghost use Rattle.desk_run.specs.Drawing.{source_from, operands_with, IsViewOf};
 
 use crate::drawing::{Form, blt_on, paint_on};
 use crate::part::part_of;
-use crate::source::Source;
 use crate::row::{first_value, put_values};
+use crate::source::Source;
 use brush_obj::{BltCall, BrushObj, CopyCall, PaintCall};
 use geom_base::{Size, Target};
 use pix_format::{ColourTable, Format, Rgb, XlateObj};
@@ -192,7 +192,12 @@ impl Canvas {
         }
         let from = first_value(&call.rect.left, part.left);
         let len = (part.right - part.left) as usize;
-        put_values(&mut self.pixels, part.left, part.top, &values[from..from + len]);
+        put_values(
+            &mut self.pixels,
+            part.left,
+            part.top,
+            &values[from..from + len],
+        );
     }
 
     /// Draws a paint.
@@ -204,7 +209,14 @@ impl Canvas {
             return;
         }
         let form = form_of(&self.pixels);
-        paint_on(self.pixels.bits_mut(), form, part.rect(), call, &self.table, brush);
+        paint_on(
+            self.pixels.bits_mut(),
+            form,
+            part.rect(),
+            call,
+            &self.table,
+            brush,
+        );
     }
 }
 

@@ -58,7 +58,13 @@ fn blt(
     if inputs.source.is_own() && inputs.mask.is_some() {
         let copy = target.copied(alloc)?;
         let xlate = translation_from(alloc, &copy, target, inputs.back)?;
-        target.blt(call, Source::Other(&copy), inputs.mask, &xlate, inputs.brush);
+        target.blt(
+            call,
+            Source::Other(&copy),
+            inputs.mask,
+            &xlate,
+            inputs.brush,
+        );
         return Ok(());
     }
     let xlate = translation_to(alloc, inputs.source, target, inputs.back)?;

@@ -48,16 +48,7 @@ pub fn blt_on(
     ensures padding { SamePadding (layout_from form.size form.format form.stride false) bits.old bits.new }
 {
     let mut surface = LentSurf::on(bits, form.size, form.format, form.stride, false);
-    bit_blt_rect(
-        &mut surface,
-        rect,
-        call,
-        src,
-        mask,
-        xlate,
-        table,
-        brush,
-    );
+    bit_blt_rect(&mut surface, rect, call, src, mask, xlate, table, brush);
 }
 
 /// Draws the part of a paint in a rectangle.

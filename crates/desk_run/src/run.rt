@@ -191,7 +191,16 @@ pub fn run_all<K: Sink>(
     let mut whole = true;
     for i in 0..commands.len() {
         let number = i as u64 + 1;
-        match carry_out(alloc, desk, script, number, &commands[i], values, line, sink) {
+        match carry_out(
+            alloc,
+            desk,
+            script,
+            number,
+            &commands[i],
+            values,
+            line,
+            sink,
+        ) {
             Given::Whole => {}
             Given::Wanting => whole = false,
             Given::Lacking => return Ended::NoMemory,
@@ -202,5 +211,9 @@ pub fn run_all<K: Sink>(
     if write_all(sink, last.as_slice()).is_err() {
         return Ended::WriteFault;
     }
-    if whole { Ended::Done } else { Ended::MemorySeen }
+    if whole {
+        Ended::Done
+    } else {
+        Ended::MemorySeen
+    }
 }

@@ -1,4 +1,4 @@
-use Rattle.std.proofs.Common.{refl, sym, ◌∙◌}
+use Rattle.std.proofs.Common.{refl}
 use Rattle.brush_obj.specs.Calls.{new_of_call, rect_of}
 use Rattle.desk_run.specs.Drawing.{operands_from}
 use Rattle.desk_run.proofs.DrawLemmas.{drawn_none, on_err, reaches}

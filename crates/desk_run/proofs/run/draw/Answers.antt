@@ -1,4 +1,4 @@
-use Rattle.std.proofs.Common.{◌≡◌, true, false, [], ◌∷◌, sym, ap, ◌∙◌}
+use Rattle.std.proofs.Common.{true, false, [], ◌∷◌, sym, ap, ◌∙◌}
 use Rattle.script_read.specs.declared.named.Named.{Named}
 use Rattle.desk_run.specs.Reports.{memory}
 use Rattle.desk_run.specs.Texts.{report_text}

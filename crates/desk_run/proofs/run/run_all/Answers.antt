@@ -1,6 +1,6 @@
-use Rattle.std.proofs.Common.{◌≡◌, ◌∙◌, ◌+◌, sym, refl, true, false, [], ◌∷◌, ◌++◌}
+use Rattle.std.proofs.Common.{◌∙◌, ◌+◌, sym, refl, true, false, [], ◌∷◌, ◌++◌}
 use Rattle.desk_run.proofs.PutLemmas.{puts_to}
-use Rattle.desk_run.proofs.HistoryLemmas.{and_false, and_true, nothing_done, so_far_more, stopped_in, halted_at, finished, finished_wanting, unfinished, command_at, command_is}
+use Rattle.desk_run.proofs.HistoryLemmas.{and_false, and_true, so_far_more, stopped_in, finished, finished_wanting, unfinished}
 use Rattle.desk_run.proofs.run.run_all.Goals.{in-Whole, in-Wanting}
 use Rattle.desk_run.proofs.run.run_all.Goals as goal
 

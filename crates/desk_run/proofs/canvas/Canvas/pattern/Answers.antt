@@ -1,4 +1,3 @@
-use Rattle.std.proofs.Common.{◌∙◌}
 use Rattle.surf_obj.specs.Object.{object_layout, object_bytes}
 use Rattle.surf_obj.proofs.LayoutLemmas.{length-values_in}
 use Rattle.desk_run.proofs.canvas.Canvas.pattern.Goals as goal

@@ -1,7 +1,6 @@
 use Rattle.std.proofs.Common.{◌≡◌, ◌<◌, ◌^◌, take}
 use Rattle.std.specs.List.{All}
 use Rattle.pix_format.specs.Value.{bits_of}
-use Rattle.surf_obj.specs.Object.{object_format, object_values}
 use Rattle.desk_run.proofs.canvas.Canvas.values.Given as goal
 
 abbrev pub invariant-loop-i : goal.invariant-loop-i

@@ -11,8 +11,8 @@ returns-clause-ok c =
     let here : get_or d.bitmaps.items c.args.number None ≡ Some t = get_or_default d.bitmaps.items c.args.number None _ (let lt : c.args.number < length d.bitmaps.items = search rules in lt) ∙ sym c.index_mut.ensures.value ∙ sym c.take.ensures.value ∙ c.in-Some.is in
     let gone = c.as_slice.ensures.value ∙ ap (λ (x : Option Surface). set d.bitmaps.items c.args.number x) c.take.ensures.after in
     rw (c.requires.target, c.take.ensures.after, ← c.self.view_is) (on_ok_map c.draw_beside-drawn.result c.draw_beside-drawn.ensures.ok
-        (λ drew. drawn_back d.screen d.bitmaps.items d.brushes.items c.args.number t here c.args.command.now c.draw_beside-drawn.new.target
-            (drew (desk_of d.screen d.bitmaps.items d.brushes.items c.args.number t here d.bitmaps.items) (rw c.requires.target (beside d.screen d.bitmaps.items d.brushes.items c.args.number t here _ refl gone c.as_slice-2.ensures.value)))))
+    (λ drew. drawn_back d.screen d.bitmaps.items d.brushes.items c.args.number t here c.args.command.now c.draw_beside-drawn.new.target
+    (drew (desk_of d.screen d.bitmaps.items d.brushes.items c.args.number t here d.bitmaps.items) (rw c.requires.target (beside d.screen d.bitmaps.items d.brushes.items c.args.number t here _ refl gone c.as_slice-2.ensures.value)))))
 
 pub returns-clause-err : goal.returns-clause-err
 returns-clause-err c =
@@ -20,4 +20,4 @@ returns-clause-err c =
     let t = c.in-Some.target in
     let here : get_or d.bitmaps.items c.args.number None ≡ Some t = get_or_default d.bitmaps.items c.args.number None _ (let lt : c.args.number < length d.bitmaps.items = search rules in lt) ∙ sym c.index_mut.ensures.value ∙ sym c.take.ensures.value ∙ c.in-Some.is in
     rw (c.take.ensures.after, ← c.self.view_is) (on_err_map c.draw_beside-drawn.result c.draw_beside-drawn.ensures.err
-        (λ same. rw same (put_back d.screen d.bitmaps.items d.brushes.items c.args.number t here)))
+    (λ same. rw same (put_back d.screen d.bitmaps.items d.brushes.items c.args.number t here)))
