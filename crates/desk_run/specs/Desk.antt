@@ -108,7 +108,7 @@ drawn_on s c told (spots.Bitmap n) = record s { bitmaps = slice_set s.bitmaps n 
 -- what a brush is made of, on the desk as it is then; a pattern that isn't there is black
 abbrev pub face_made : State → Rgb → FaceOrder → BrushFace
 face_made s back (Solid colour) = faces.Solid colour
-face_made s back (Hatch kind fore ground) = faces.Hatch kind fore ground
+face_made s back (Hatch kind fore other) = faces.Hatch kind fore other
 face_made s back (Pattern n) = unwrap_or (option_map (λ (t : Surface). faces.Pattern (record { picture = t; back = back })) (bitmap_at s n)) (faces.Solid black)
 
 -- the desk after a command with these reports

@@ -121,8 +121,8 @@ impl Desk {
     {
         let number = match face {
             FaceOrder::Solid(colour) => return Ok(BrushObj::solid(alloc, colour)),
-            FaceOrder::Hatch(kind, fore, ground) => {
-                return Ok(BrushObj::hatch(alloc, kind, fore, ground));
+            FaceOrder::Hatch(kind, fore, other) => {
+                return Ok(BrushObj::hatch(alloc, kind, fore, other));
             }
             FaceOrder::Pattern { bitmap } => bitmap,
         };
