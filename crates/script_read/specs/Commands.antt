@@ -1,12 +1,13 @@
 -- The commands, one for each word: how many words a line has, and what it means.
-use Rattle.std.specs.Prelude.{ℕ, ◌+◌, ◌-◌, ◌*◌, List, [], ◌∷◌, ◌++◌, length, drop, codes, None, Result, Ok, Err, ◌==◌, nat_lt, nat_le, Bool, ◌&&◌, ◌||◌, if◌then◌else◌}
+use Rattle.std.specs.Prelude.{ℕ, ◌+◌, ◌-◌, ◌*◌, ◌%◌, is_some, List, [], ◌∷◌, ◌++◌, length, drop, codes, None, Result, Ok, Err, ◌==◌, nat_lt, nat_le, Bool, ◌&&◌, ◌||◌, if◌then◌else◌}
 use Rattle.std.specs.Str.{bytes_eq}
 use Rattle.geom_base.specs.declared.size.Size.{Size}
+use Rattle.geom_base.specs.declared.rect.Rect.{Rect}
 use Rattle.pix_format.specs.Value.{colours_of}
 use Rattle.rop_mix.specs.Needs.{source_needed, mask_needed}
 use Rattle.brush_obj.specs.declared.draw_call.DrawCall.TheVariants as calls
 use Rattle.script_words.specs.declared.fault.Fault.{Fault}
-use Rattle.script_words.specs.declared.fault.Fault.TheVariants.{UnknownCommand, WordCount, NotOrdered, OperandMissing, MaskNotMono, MaskIsTarget, PastLimit, TooManyCommands, TableMisfit}
+use Rattle.script_words.specs.declared.fault.Fault.TheVariants.{UnknownCommand, WordCount, NotOrdered, OperandMissing, MaskNotMono, MaskIsTarget, PastLimit, RegionTooLarge, TooManyCommands, TableMisfit}
 use Rattle.script_words.specs.Asking.{◌>>=◌, ask, each}
 use Rattle.script_words.specs.Lines.{word_at}
 use Rattle.script_words.specs.Places.{colour_at, rect_at, point_at, is_well_ordered}
@@ -21,7 +22,8 @@ use Rattle.script_read.specs.declared.verb.Verb.{Verb}
 use Rattle.script_read.specs.declared.verb.Verb.TheVariants as verbs
 use Rattle.script_read.specs.Drawing.{feed_from, feed_for, mask_for, has_operands, is_mono, is_other, number_of_mask, row_rect, zero_point, blt_from, copy_from, paint_from}
 use Rattle.script_read.specs.Fields.{new_name, spot_at, bitmap_at, spot_or_none, bitmap_or_none, brush_at, brush_or_none, format_at, table_at, value_at, face_at, named_at}
-use Rattle.script_read.specs.Names.{NameMap, brush, bitmap, table, with_name, without_name}
+use Rattle.script_read.specs.Names.{NameMap, brush, bitmap, region, table, with_name, without_name}
+use Rattle.script_read.specs.Regions.{named_region_at, operation_of}
 use Rattle.script_read.specs.State.{State}
 
 -- a line's meaning: what it asks, and the state after it
@@ -163,6 +165,30 @@ read_pixels s words = do
   values ← each (value_at b.format) (drop 4 words)
   Ok (asked.Draw (record { target = spots.Bitmap b.number; call = calls.Copy (copy_from (row_rect at (length values)) zero_point); source = feeds.Row values; mask = None; brush = uses.Nothing; back = s.back }), s)
 
+-- one more region of so many rectangles fits
+abbrev pub has_room_for_rects : State → ℕ → Bool
+has_room_for_rects s count = has_room s && nat_le (s.rectangles + count) 262144
+
+-- one more region under a name, where it fits
+unfoldable pub keep_region : State → List ℕ → List Rect → Meaning
+keep_region s name rects = do
+  _ ← ask (has_room_for_rects s (length rects)) PastLimit
+  _ ← ask (nat_le (length rects) 4096) RegionTooLarge
+  Ok (
+    asked.Nothing,
+    record s {
+      names = with_name name (region rects) s.names;
+      live = s.live + 1;
+      rectangles = s.rectangles + length rects;
+    },
+  )
+
+-- region NAME rects [R ...], region NAME OP A B, and region NAME offset A DX DY
+unfoldable pub read_region : State → List (List ℕ) → Meaning
+read_region s words = do
+  rects ← named_region_at s.names words
+  keep_region s (word_at words 1) rects
+
 -- sum X
 unfoldable pub read_sum : State → List (List ℕ) → Meaning
 read_sum s words = do
@@ -186,6 +212,14 @@ form_fits form count =
     else if bytes_eq form (codes "pattern") then count == 4
     else nat_le 3 count
 
+-- a region of a form has so many words; where the word is no form the number isn't asked
+abbrev pub region_fits : List ℕ → ℕ → Bool
+region_fits form count =
+    if bytes_eq form (codes "rects") then nat_le 3 count && (count - 3) % 4 == 0
+    else if bytes_eq form (codes "offset") then count == 6
+    else if is_some (operation_of form) then count == 5
+    else nat_le 3 count
+
 -- a line of a command has so many words
 abbrev pub count_fits : Verb → List (List ℕ) → Bool
 count_fits verbs.Back words = length words == 2
@@ -198,6 +232,7 @@ count_fits verbs.Delete words = length words == 2
 count_fits verbs.Dump words = length words == 2
 count_fits verbs.Paint words = length words == 8
 count_fits verbs.Pixels words = nat_le 5 (length words)
+count_fits verbs.Region words = region_fits (word_at words 2) (length words)
 count_fits verbs.Sum words = length words == 2
 count_fits verbs.Table words = length words == 4 || length words == 18 || length words == 258
 
@@ -212,6 +247,7 @@ meaning_of verbs.Delete s words = read_delete s words
 meaning_of verbs.Dump s words = read_dump s words
 meaning_of verbs.Paint s words = read_paint s words
 meaning_of verbs.Pixels s words = read_pixels s words
+meaning_of verbs.Region s words = read_region s words
 meaning_of verbs.Sum s words = read_sum s words
 meaning_of verbs.Table s words = read_table s words
 
@@ -227,11 +263,12 @@ spelling_of verbs.Delete = codes "delete"
 spelling_of verbs.Dump = codes "dump"
 spelling_of verbs.Paint = codes "paint"
 spelling_of verbs.Pixels = codes "pixels"
+spelling_of verbs.Region = codes "region"
 spelling_of verbs.Sum = codes "sum"
 spelling_of verbs.Table = codes "table"
 
 abbrev pub all_verbs : List Verb
-all_verbs = verbs.Back ∷ verbs.Bitmap ∷ verbs.Blt ∷ verbs.Brush ∷ verbs.Brushorg ∷ verbs.Copy ∷ verbs.Delete ∷ verbs.Dump ∷ verbs.Paint ∷ verbs.Pixels ∷ verbs.Sum ∷ verbs.Table ∷ []
+all_verbs = verbs.Back ∷ verbs.Bitmap ∷ verbs.Blt ∷ verbs.Brush ∷ verbs.Brushorg ∷ verbs.Copy ∷ verbs.Delete ∷ verbs.Dump ∷ verbs.Paint ∷ verbs.Pixels ∷ verbs.Region ∷ verbs.Sum ∷ verbs.Table ∷ []
 
 -- the command that a word names
 abbrev pub verb_among : List Verb → List ℕ → Result Verb Fault

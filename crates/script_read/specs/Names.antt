@@ -5,19 +5,21 @@ use Rattle.std.specs.Ordering.{nat_cmp}
 use Rattle.std.specs.Cmp.Lexicographic.{slice_cmp}
 use Rattle.std.specs.BTreeMap.{get_by}
 use Rattle.std.specs.Str.{bytes_eq}
+use Rattle.geom_base.specs.declared.rect.Rect.{Rect}
 use Rattle.pix_format.specs.declared.rgb.Rgb.{Rgb}
 use Rattle.script_read.specs.declared.entry.Bitmap.{Bitmap}
 use Rattle.script_read.specs.declared.entry.Entry.{Entry}
 use Rattle.script_read.specs.declared.entry.Entry.TheVariants as entries
 use Rattle.script_read.specs.declared.names.Names.{Names}
 
--- what a name stands for; bitmaps and brushes have numbers
+-- what a name stands for; bitmaps and brushes have numbers, and a region is its list of rectangles
 pub data Name : Type 0 where
   screen : Name
   no_clip : Name
   table : List Rgb → Name
   brush : ℕ → Name
   bitmap : Bitmap → Name
+  region : List Rect → Name
 
 abbrev pub name_of : Entry → Name
 name_of entries.Screen = screen
@@ -25,6 +27,7 @@ name_of entries.NoClip = no_clip
 name_of (entries.Table colours) = table colours
 name_of (entries.Brush number) = brush number
 name_of (entries.Bitmap b) = bitmap b
+name_of (entries.Region rects) = region rects
 
 -- what each word stands for, where it is a name in use
 abbrev pub NameMap : Type 0

@@ -58,6 +58,7 @@ number_of_fault faults.OperandMissing = 9
 number_of_fault faults.MaskNotMono = 10
 number_of_fault faults.MaskIsTarget = 11
 number_of_fault faults.PastLimit = 12
+number_of_fault faults.RegionTooLarge = 13
 number_of_fault faults.TooManyCommands = 14
 number_of_fault faults.TableMisfit = 15
 

@@ -1,5 +1,6 @@
 //! What a name may stand for.
 
+use crate::named_region::NamedRegion;
 use geom_base::Size;
 use pix_format::{ColourTable, Format};
 
@@ -22,4 +23,5 @@ pub enum Entry {
     /// The brush of this number.
     Brush(u32),
     Bitmap(Bitmap),
+    Region(NamedRegion),
 }

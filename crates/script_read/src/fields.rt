@@ -1,16 +1,18 @@
 //! One word of a line, where names count.
 
-ghost use Rattle.std.specs.Prelude.{◌≡◌, ◌<◌, ◌≤◌, ◌^◌, ◌==◌, IfOk, OnOk, length, map};
+ghost use Rattle.std.specs.Prelude.{◌≡◌, ◌<◌, ◌≤◌, ◌^◌, ◌==◌, IfOk, IfErr, OnOk, Ok, Err, length, map};
 ghost use Rattle.std.specs.Str.{bytes_eq};
 ghost use Rattle.pix_format.specs.Value.{colours_of};
 ghost use Rattle.script_words.specs.Asking.{Gives};
 ghost use Rattle.script_words.specs.Spelling.{count_in};
 ghost use Rattle.script_read.specs.Names.{names_of};
+ghost use Rattle.script_read.specs.Regions.{region_at};
 ghost use Rattle.script_read.specs.Fields.{new_name, spot_at, bitmap_at, table_at, is_dash, spot_or_none, bitmap_or_none, brush_at, brush_or_none, format_at, value_at, hatch_at, named_at};
 
 use crate::desk_command::{BrushUse, Spot};
 use crate::entry::{Bitmap, Entry};
 use crate::named::Named;
+use crate::named_region::NamedRegion;
 use crate::names::Names;
 use brush_obj::Hatch;
 use pix_format::{ColourTable, Format};
@@ -49,6 +51,17 @@ pub fn bitmap(names: &Names<'_>, word: &[u8]) -> Result<Bitmap, Fault>
 {
     match names.get(word) {
         Some(Entry::Bitmap(bitmap)) => Ok(*bitmap),
+        _ => Err(Fault::UnknownName),
+    }
+}
+
+/// A region.
+pub fn region<'n>(names: &'n Names<'_>, word: &[u8]) -> Result<&'n NamedRegion, Fault>
+    ensures ok { IfOk result (λ r. region_at (names_of names.now) word.now ≡ Ok r.now) }
+    ensures err { IfErr result (λ e. region_at (names_of names.now) word.now ≡ Err e) }
+{
+    match names.get(word) {
+        Some(Entry::Region(region)) => Ok(region),
         _ => Err(Fault::UnknownName),
     }
 }

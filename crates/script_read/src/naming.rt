@@ -24,7 +24,7 @@ use script_words::{Fault, ReadError, count, word};
 use std::alloc::Global;
 
 /// One more name fits.
-fn has_room(reader: &Reader<'_>) -> bool
+pub fn has_room(reader: &Reader<'_>) -> bool
     ensures { result ≡ has_room (state_of reader.now) }
 {
     reader.live < 10000

@@ -7,6 +7,7 @@ use crate::entry::Entry;
 use crate::fields::named;
 use crate::names::Names;
 use crate::naming::{bitmap, brush, delete, table};
+use crate::regions::region;
 use crate::script_command::ScriptCommand;
 use crate::verb::{Verb, fits_count, verb_of};
 use geom_base::Point;
@@ -25,6 +26,8 @@ pub struct Reader<'a> {
     /// How many bitmaps are in use, and how many pixels they have together.
     pub(crate) bitmaps: u32,
     pub(crate) pixels: u32,
+    /// How many rectangles the named regions have together.
+    pub(crate) rectangles: u32,
     /// The names of all bitmaps that were made.
     pub(crate) made: Vec<&'a [u8]>,
     pub(crate) origin: Point,
@@ -34,6 +37,7 @@ pub struct Reader<'a> {
     ghost few_tables: { tables ≤ 256 },
     ghost few_bitmaps: { bitmaps ≤ 4096 },
     ghost few_pixels: { pixels ≤ 16777216 },
+    ghost few_rectangles: { rectangles ≤ 262144 },
     ghost short_names: { All (λ w. length w.now ≤ 32) made.items },
 }
 
@@ -58,6 +62,7 @@ impl<'a> Reader<'a> {
             tables: 0,
             bitmaps: 0,
             pixels: 0,
+            rectangles: 0,
             made: Vec::new(alloc),
             origin: Point { x: 0, y: 0 },
             back: Rgb {
@@ -168,6 +173,7 @@ impl<'a> Reader<'a> {
     ) -> Result<ScriptCommand, ReadError>
         requires words { 2 ≤ length words.now }
         requires row { verb ≡ Verb.Pixels → 4 ≤ length words.now }
+        requires form { verb ≡ Verb.Region → 3 ≤ length words.now }
         requires few { length self.old.made.items < 100000 }
         ensures value { Reads result (state_of self.new) (meaning_of verb (state_of self.old) (map (λ w. w.now) words.now)) }
         ensures can { IfOk result CanDo }
@@ -184,6 +190,7 @@ impl<'a> Reader<'a> {
             Verb::Dump => self.dump(words),
             Verb::Paint => paint(self, words),
             Verb::Pixels => pixels(self, alloc, words),
+            Verb::Region => region(self, alloc, words),
             Verb::Sum => self.sum(words),
             Verb::Table => table(self, alloc, words),
         }

@@ -31,6 +31,7 @@ fn number_of(fault: Fault) -> u32
         Fault::MaskNotMono => 10,
         Fault::MaskIsTarget => 11,
         Fault::PastLimit => 12,
+        Fault::RegionTooLarge => 13,
         Fault::TooManyCommands => 14,
         Fault::TableMisfit => 15,
     }

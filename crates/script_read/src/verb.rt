@@ -1,8 +1,9 @@
 //! The commands.
 
 ghost use Rattle.std.specs.Prelude.{◌≡◌, ◌≤◌, IsTrue, length, map, Ok, Err};
-ghost use Rattle.script_read.specs.Commands.{spelling_of, all_verbs, verb_among, form_fits, count_fits};
+ghost use Rattle.script_read.specs.Commands.{spelling_of, all_verbs, verb_among, form_fits, region_fits, count_fits};
 
+use crate::operation::operation_named;
 use script_words::{Fault, word};
 
 /// A command.
@@ -18,12 +19,13 @@ pub enum Verb {
     Dump,
     Paint,
     Pixels,
+    Region,
     Sum,
     Table,
 }
 
 /// All commands.
-const VERBS: [Verb; 12] = [
+const VERBS: [Verb; 13] = [
     Verb::Back,
     Verb::Bitmap,
     Verb::Blt,
@@ -34,6 +36,7 @@ const VERBS: [Verb; 12] = [
     Verb::Dump,
     Verb::Paint,
     Verb::Pixels,
+    Verb::Region,
     Verb::Sum,
     Verb::Table,
 ];
@@ -53,6 +56,7 @@ fn spelling(verb: Verb) -> &'static [u8]
         Verb::Dump => b"dump",
         Verb::Paint => b"paint",
         Verb::Pixels => b"pixels",
+        Verb::Region => b"region",
         Verb::Sum => b"sum",
         Verb::Table => b"table",
     }
@@ -86,10 +90,27 @@ fn fits_form(form: &[u8], count: usize) -> bool
     }
 }
 
+/// A region of this form has so many words. The number isn't asked where the word is no form.
+fn fits_region(form: &[u8], count: usize) -> bool
+    ensures value { result ≡ region_fits form.now count }
+    ensures least { IsTrue result → 3 ≤ count }
+{
+    if form == b"rects".as_slice() {
+        count >= 3 && (count - 3).is_multiple_of(4)
+    } else if form == b"offset".as_slice() {
+        count == 6
+    } else if operation_named(form).is_some() {
+        count == 5
+    } else {
+        count >= 3
+    }
+}
+
 /// A line of the command has so many words.
 pub fn fits_count(verb: Verb, words: &[&[u8]]) -> bool
     ensures value { result ≡ count_fits verb (map (λ w. w.now) words.now) }
     ensures least { IsTrue result → 2 ≤ length words.now }
+    ensures form { IsTrue result → verb ≡ Verb.Region → 3 ≤ length words.now }
 {
     let count = words.len();
     match verb {
@@ -103,6 +124,7 @@ pub fn fits_count(verb: Verb, words: &[&[u8]]) -> bool
         Verb::Dump => count == 2,
         Verb::Paint => count == 8,
         Verb::Pixels => count >= 5,
+        Verb::Region => fits_region(word(words, 2), count),
         Verb::Sum => count == 2,
         Verb::Table => count == 4 || count == 18 || count == 258,
     }

@@ -1,5 +1,5 @@
 -- Colours, points and rectangles: their values, or the first fault.
-use Rattle.std.specs.Prelude.{ℕ, ◌+◌, ◌/◌, ◌%◌, ℤ, pos, negsuc, int_le, List, Result, Ok, Bool, ◌&&◌}
+use Rattle.std.specs.Prelude.{ℕ, ◌+◌, ◌/◌, ◌%◌, ℤ, ◌≤ℤ◌, pos, negsuc, int_le, List, Result, Ok, Bool, ◌&&◌}
 use Rattle.geom_base.specs.declared.point.Point.{Point}
 use Rattle.geom_base.specs.declared.rect.Rect.{Rect}
 use Rattle.pix_format.specs.declared.rgb.Rgb.{Rgb}
@@ -21,6 +21,16 @@ colour_at word = do
 -- a coordinate of a rectangle, from -32768 to 32767
 abbrev pub coordinate_at : List ℕ → Result ℤ Fault
 coordinate_at word = number_in (negsuc 32767) (pos 32767) word
+
+-- and so is each edge of a rectangle
+abbrev pub IsCoordinate : ℤ → Type 0
+IsCoordinate z = (negsuc 32767 ≤ℤ z) × (z ≤ℤ pos 32767)
+
+pub record AreCoordinates (r : Rect) : Type 0 where
+  pub left : IsCoordinate r.left
+  pub top : IsCoordinate r.top
+  pub right : IsCoordinate r.right
+  pub bottom : IsCoordinate r.bottom
 
 -- the rectangle of four words from number i on
 abbrev pub rect_at : List (List ℕ) → ℕ → Result Rect Fault

@@ -32,6 +32,8 @@ pub enum Fault {
     MaskIsTarget,
     /// A size or a total is past its limit.
     PastLimit,
+    /// A region has too many rectangles.
+    RegionTooLarge,
     /// One command too many.
     TooManyCommands,
     /// A table has another number of colours than the format.

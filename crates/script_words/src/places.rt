@@ -1,7 +1,7 @@
 //! Colours, points and rectangles.
 
 ghost use Rattle.std.specs.Prelude.{◌≡◌, ◌<◌, ◌≤ℤ◌, ◌^◌, pos, IfOk, map};
-ghost use Rattle.script_words.specs.Places.{rgb_of, colour_at, coordinate_at, rect_at, point_at, is_well_ordered};
+ghost use Rattle.script_words.specs.Places.{rgb_of, colour_at, coordinate_at, rect_at, point_at, is_well_ordered, IsCoordinate, AreCoordinates};
 
 use crate::fault::Fault;
 use crate::spelling::{hexadecimal, number};
@@ -30,7 +30,8 @@ pub fn colour(word: &[u8]) -> Result<Rgb, Fault>
 }
 
 fn coordinate(word: &[u8]) -> Result<i32, Fault>
-    ensures { result ≡ coordinate_at word.now }
+    ensures value { result ≡ coordinate_at word.now }
+    ensures range { IfOk result IsCoordinate }
 {
     number(word, -32768, 32767)
 }
@@ -38,7 +39,8 @@ fn coordinate(word: &[u8]) -> Result<i32, Fault>
 /// A rectangle of four words from number i on.
 pub fn rect(words: &[&[u8]], i: usize) -> Result<Rect, Fault>
     requires { i < 2 ^ 63 }
-    ensures { result ≡ rect_at (map (λ w. w.now) words.now) i }
+    ensures value { result ≡ rect_at (map (λ w. w.now) words.now) i }
+    ensures range { IfOk result AreCoordinates }
 {
     let left = coordinate(word(words, i))?;
     let top = coordinate(word(words, i + 1))?;
