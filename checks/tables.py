@@ -6,7 +6,7 @@
 At each of the seven formats: each raster operation of one byte on all eight combinations of a pattern's, a source's and
 the target's bit, at every bit of a value, alone and on either side of a mask; each mix on all four; and each shift of a
 rectangle of 5 by 4 inside a bitmap onto itself by up to three pixels in either direction, and over the bitmap's edges, as
-a copy, as an exclusive or and under a mask.
+a copy, as an exclusive or and under a mask, where all of its points exist and where some don't.
 """
 import argparse
 import random
@@ -62,15 +62,16 @@ def noise(name, size, form):
 
 
 def shift_script(form, place):
-    """Each shift in three ways, from the same bitmap."""
+    """Each shift in five ways, from the same bitmap; under the mask, and where some of its points don't exist."""
     size, left, top = place
     rect = f"t {left} {top} {left + 5} {top + 4}"
     lines = noise("n", size, form) + noise("k", "5 4", "1") + [f"bitmap t {size} {form}"]
     whole = "copy t 0 0 " + size + " n 0 0"
     for x, y in SHIFTS:
         source = f"t {left + x} {top + y}"
-        for line in (f"copy {rect} {source}", f"blt {rect} {source} - 0 0 - 6666", f"blt {rect} {source} k 0 0 - AACC"):
-            lines += [whole, line, "dump t"]
+        for way in ("- 0 0 - CCCC", "- 0 0 - 6666", "k 0 0 - AACC", "k 1 -1 - 33CC"):
+            lines += [whole, f"blt {rect} {source} {way}", "dump t"]
+        lines += [whole, f"copy {rect} {source}", "dump t"]
     return lines
 
 
