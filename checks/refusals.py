@@ -53,12 +53,15 @@ def name_limits():
 
 
 def command_limits():
-    """100,000 commands, and one more."""
+    """100,000 commands, and one more; a long line; many bitmaps one after the other."""
     backs = "back 000000\n" * 100_000
     yield accepted(100_000), backs + "# a comment\n\n"
     yield refused(9 + 100_000, 14), backs + "back 000000\n"
     yield refused(9 + 100_000, 14), backs + "frob\n"
     yield refused(9 + 100_002, 14), backs + "\n# a comment\nback\n"
+    row = "bitmap m 4 1 8\npixels m -32768 0 " + "01 02 03 04 05 " * 6_554
+    yield accepted(3), row + "\ndump m\n"
+    yield refused(10, 3), row + "6\ndump x\n"
     turns = "bitmap m 4096 1024 1\ndelete m\n" * 40_000
     yield refused(9 + 80_000, 5), turns + "delete m\n"
 
