@@ -85,7 +85,8 @@ def scripts():
 def differing(gdi, answer, lines):
     """How many entries of a table a script has, and the drawing lines of those in which program and oracle differ."""
     data = (CONFIG + "\n".join(lines) + "\n").encode()
-    text, wanted = (answered(data)[0].split(b"dump t ")[1:] for answered in (lambda asked: programs_answer(gdi, asked), answer))
+    text = programs_answer(gdi, data)[0].split(b"dump t ")[1:]
+    wanted = answer(data)[0].split(b"dump t ")[1:]
     drawn = [line for line, after in zip(lines, lines[1:]) if after == "dump t"]
     if len(wanted) != len(drawn):
         sys.exit(f"tables: the oracle doesn't draw {lines[0]}")
