@@ -4,17 +4,18 @@ DIGITS = {"1": 1, "4": 1, "8": 2, "555": 4, "565": 4, "24": 6, "32": 8}
 BITS = {"1": 1, "4": 4, "8": 8, "555": 16, "565": 16, "24": 24, "32": 32}
 COLOURS = {"1": 2, "4": 16, "8": 256}
 HATCHES = ["horizontal", "vertical", "fdiagonal", "bdiagonal", "cross", "diagcross"]
+OPERATIONS = ["union", "intersect", "subtract", "xor"]
 BYTES = ["CC", "66", "F0", "AA", "5A", "00", "FF", "B8", "E2", "55", "33", "88", "EE", "0F"]
-UNBUILT = ["region r rects 0 0 1 1", "clip none", "devbitmap d 0 1 1", "stretch screen 0 0 1 1 screen 0 0 1 1 n",
+UNBUILT = ["clip none", "devbitmap d 0 1 1", "stretch screen 0 0 1 1 screen 0 0 1 1 n",
            "transparent screen 0 0 1 1 screen 0 0 1 1 000000", "gradient screen 0 0 1 1 h 000000000000 FFFFFFFFFFFF",
            "line screen 0 0 1 1 #000000 13", "stroke screen solid #000000 13 0 0 1 1", "font f",
-           "glyph f 41 1 1 0 0 1 80", "text screen f 0 0 #000000 - 0 0 0 0 41", "region", "clip", "frob"]
+           "glyph f 41 1 1 0 0 1 80", "text screen f 0 0 #000000 - 0 0 0 0 41", "clip", "frob"]
 JUNK = ["", "-", "x", "#", "#12345", "#1234567", "#GG0000", "0", "-1", "-0", "007", "99999", "1234567890",
         "screen", "none", "a1", "_a", "a" * 33, "a" * 32, "zz", "GG", "solid", "hatch", "pattern", "32767",
         "32768", "-32768", "-32769", "65", "16", "17", "13", "013", "\u00e9", "\t", "%%", "#000000", "1e3", "+1",
         "CCCC", "aacc", "F0F", "4096", "4097", "1025", "8", "555", "2", "ff", "00000000"]
 WEIGHTS = {"paint": 6, "copy": 4, "shift": 5, "blt": 12, "bitmap": 2, "noise": 3, "pixels": 3, "solid": 1, "hatch": 2,
-           "pattern": 3, "table": 1, "delete": 1, "brushorg": 2, "back": 2, "dump": 3, "sum": 2, "skipped": 1}
+           "pattern": 3, "table": 1, "region": 2, "delete": 1, "brushorg": 2, "back": 2, "dump": 3, "sum": 2, "skipped": 1}
 
 
 def needs(byte):
@@ -28,7 +29,7 @@ class Script:
     def __init__(self, chance, width, height):
         self.chance, self.screen = chance, (width, height, "8")
         self.lines, self.made = [], 0
-        self.bitmaps, self.tables, self.brushes = {}, {}, []
+        self.bitmaps, self.tables, self.brushes, self.regions = {}, {}, [], []
 
     def say(self, *words):
         self.lines.append(" ".join(str(word) for word in words))
@@ -133,6 +134,18 @@ class Script:
         name, count = self.name(), self.chance.choice([2, 2, 16, 16, 256])
         self.say("table", name, *[self.colour() for _ in range(count)])
         self.tables[name] = count
+
+    def region(self):
+        name, form = self.name(), self.chance.choice(["rects", "rects", "offset", *OPERATIONS])
+        known = [self.chance.choice(self.regions or ["nothing"]) for _ in range(2)]
+        if form == "rects" or not self.regions:
+            form, words = "rects", [self.rectangle("screen") for _ in range(self.chance.choice([0, 1, 2, 5, 12]))]
+        elif form == "offset":
+            words = [known[0], self.coordinate(20), self.coordinate(20)]
+        else:
+            words = known
+        self.say("region", name, form, *words)
+        self.regions.append(name)
 
     def brushorg(self):
         self.say("brushorg", self.coordinate(12), self.coordinate(12))

@@ -52,6 +52,24 @@ def name_limits():
     yield accepted(4096 + 1024 + 256), tables + bitmaps + brushes
 
 
+def region_limits():
+    """10,000 names; 4,096 rectangles in a region, and 262,144 in all; and one more."""
+    empty = "".join(f"region r{i} rects\n" for i in range(10_000))
+    yield accepted(10_000), empty
+    yield refused(9 + 10_000, 12), empty + "table t 000000 FFFFFF\n"
+    yield refused(9 + 10_000, 12), empty + "region x rects\n"
+    apart = "".join(f" {2 * i} 0 {2 * i + 1} 1" for i in range(4_096))
+    full = "region a rects" + apart + "\n"
+    yield accepted(1), full
+    yield refused(9, 13), "region a rects" + apart + " 9000 0 9001 1\n"
+    stripes = full + "".join(f"region s{i} offset a {i} {i}\n" for i in range(63))
+    yield accepted(64), stripes
+    yield accepted(65), stripes + "region x subtract a s0\n"
+    yield refused(9 + 64, 12), stripes + "region x rects 0 0 1 1\n"
+    yield refused(9 + 64, 12), stripes + "region x union a s1\n"
+    yield refused(11, 13), "region b rects 0 5 1 6\n" + full + "region y union a b\n"
+
+
 def command_limits():
     """100,000 commands, and one more; a long line; many bitmaps one after the other."""
     backs = "back 000000\n" * 100_000
@@ -73,7 +91,7 @@ def main():
     asked = parser.parse_args()
     answer = oracles_answer(asked.oracle) if asked.oracle else None
     passed = failed = 0
-    for want, script in [*written_cases(), *name_limits(), *command_limits()]:
+    for want, script in [*written_cases(), *name_limits(), *region_limits(), *command_limits()]:
         data = (CONFIG + script).encode()
         text, status = programs_answer(asked.gdi, data)
         said = answer(data)[0] if answer else text
