@@ -19,29 +19,117 @@ use std::test::Fail;
 const NAMES: &str =
     "bitmap mono 4 2 1\nbitmap grey 4 2 4\nbitmap wide 65 1 8\ntable two 000000 FFFFFF\nbrush red solid FF0000\n";
 
-/// The numbers of refusals; 0 where a line is taken.
-const NUMBERS: [u32; 14] = [1, 2, 3, 4, 5, 6, 7, 8, 9, 10, 11, 12, 15, 0];
-
-/// Lines behind these names for each number, with | between them.
-const LINES: [&str; 14] = [
-    "frame|Paint screen 0 0 1 1 red 13| # no comment|back\t000000",
-    "back|back 000000 0|bitmap b 1 1|bitmap b 1 1 1 two 0|blt screen 0 0 1 1 - 0 0 - 0 0 -|blt screen 0 0 1 1 - 0 0 - 0 0 - AAAA 0|brush b|brush b solid|brush 1 hatch cross 000000|brush b pattern mono mono|brushorg 0|copy screen 0 0 1 1 mono 0|delete|delete mono grey|dump|paint screen 0 0 1 1 red|pixels mono 0 0|sum 0 0|table t 000000|table mono 000000 000000 000000",
-    "back FF00|back GG0000|bitmap b 1x 0 8|bitmap b 1 1 16|blt screen 0 0 1 1 - 0 0 - 0 0 - AAA|blt screen 1 0 0 1 - 0 0 - 0 0 #00000 AAAA|brush b striped|brush b striped 1 2 3 4 5|brush b solid 12345|brush b hatch zigzag 000000 FFFFFF|brush b hatch cross 000000 FFFFF|brushorg 0 1234567890|brushorg - 32767|copy screen 0 0 1 - nothing 0 0|dump -|sum #|paint screen 0 0 1 1 #00000 0|paint screen 0 0 1 1 red x|pixels mono 0 0 2|pixels mono 0 0 1 11|pixels grey 0 0 0F|pixels wide 0 0 F|table t 000000 00000",
-    "bitmap b 0 1 8|bitmap b 1 4097 9|blt screen 0 0 32768 1 x 0 0 - 0 0 - AAAA|brushorg 32767 0|copy screen 0 0 1 1 mono 0 -32769|dump 1|sum -1|paint screen 1 0 0 1 red 0|paint screen 0 0 1 1 red 17|pixels mono 0 32767 2",
-    "bitmap b 1 1 1 red|blt none 32768 0 1 1 - 0 0 - 0 0 - AAAA|blt screen 1 0 0 1 red 0 0 - 0 0 - AAAA|blt screen 0 0 1 1 - 0 0 screen 0 0 - AAAA|blt screen 0 0 1 1 - 0 0 - 0 0 mono AAAA|brush b pattern screen|brush b pattern two|copy screen 0 0 1 1 - 0 0|delete red|delete screen|dump Mono|sum screen|paint two 0 0 1 1 red 13|paint screen 0 0 1 1 - 0|pixels screen 0 0 00|blt screen 0 0 1 1 red2 0 0 - 0 0 - AAAA",
-    "bitmap screen 0 1 8|brush none striped|table mono 00000 000000",
-    "bitmap 1b 0 1 8|brush - striped|table b! 00000 000000|brush aaaaaaaaaaaaaaaaaaaaaaaaaaaaaaaaa solid 000000",
-    "blt screen 1 0 0 1 - 0 0 - 0 0 - CCCC|copy screen 0 1 1 0 mono 0 0|paint screen 0 1 0 0 red 13",
-    "blt screen 0 0 1 1 - 0 0 - 0 0 - CCCC|blt screen 0 0 1 1 - 0 0 - 0 0 - F0F0|blt screen 0 0 1 1 mono 0 0 - 0 0 - AACC|blt screen 0 0 1 1 - 0 0 grey 0 0 - AACC",
-    "blt screen 0 0 1 1 mono 0 0 grey 0 0 - AACC|blt grey 0 0 1 1 mono 0 0 grey 0 0 - AACC",
-    "blt mono 0 0 1 1 grey 0 0 mono 0 0 - AACC",
-    "bitmap b 4096 1025 8|brush b pattern wide",
-    "bitmap b 1 1 4 two|bitmap b 4096 4096 8 two|bitmap b 1 1 32 two",
-    "blt mono 0 0 1 1 grey 0 0 mono 0 0 - CCCC|blt screen 0 0 1 1 - 0 0 grey 0 0 - 5555|brush aaaaaaaaaaaaaaaaaaaaaaaaaaaaaaaa solid 000000|bitmap b 4096 1024 8|bitmap b 1 1 1 two|pixels grey 32766 -32768 f F|  sum   -0 |brush b pattern mono|copy mono 0 0 0 0 mono 0 0|paint mono -32768 -32768 32767 32767 red 16",
+/// Lines behind these names, and the number of each refusal; 0 where the line is taken.
+const LINES: [(&str, u32); 105] = [
+    ("frame", 1),
+    ("Paint screen 0 0 1 1 red 13", 1),
+    (" # no comment", 1),
+    ("back\t000000", 1),
+    ("back", 2),
+    ("back 000000 0", 2),
+    ("bitmap b 1 1", 2),
+    ("bitmap b 1 1 1 two 0", 2),
+    ("blt screen 0 0 1 1 - 0 0 - 0 0 -", 2),
+    ("blt screen 0 0 1 1 - 0 0 - 0 0 - AAAA 0", 2),
+    ("brush b", 2),
+    ("brush b solid", 2),
+    ("brush 1 hatch cross 000000", 2),
+    ("brush b pattern mono mono", 2),
+    ("brushorg 0", 2),
+    ("copy screen 0 0 1 1 mono 0", 2),
+    ("delete", 2),
+    ("delete mono grey", 2),
+    ("dump", 2),
+    ("paint screen 0 0 1 1 red", 2),
+    ("pixels mono 0 0", 2),
+    ("sum 0 0", 2),
+    ("table t 000000", 2),
+    ("table mono 000000 000000 000000", 2),
+    ("back FF00", 3),
+    ("back GG0000", 3),
+    ("bitmap b 1x 0 8", 3),
+    ("bitmap b 1 1 16", 3),
+    ("blt screen 0 0 1 1 - 0 0 - 0 0 - AAA", 3),
+    ("blt screen 1 0 0 1 - 0 0 - 0 0 #00000 AAAA", 3),
+    ("brush b striped", 3),
+    ("brush b striped 1 2 3 4 5", 3),
+    ("brush b solid 12345", 3),
+    ("brush b hatch zigzag 000000 FFFFFF", 3),
+    ("brush b hatch cross 000000 FFFFF", 3),
+    ("brushorg 0 1234567890", 3),
+    ("brushorg - 32767", 3),
+    ("copy screen 0 0 1 - nothing 0 0", 3),
+    ("dump -", 3),
+    ("sum #", 3),
+    ("paint screen 0 0 1 1 #00000 0", 3),
+    ("paint screen 0 0 1 1 red x", 3),
+    ("pixels mono 0 0 2", 3),
+    ("pixels mono 0 0 1 11", 3),
+    ("pixels grey 0 0 0F", 3),
+    ("pixels wide 0 0 F", 3),
+    ("table t 000000 00000", 3),
+    ("bitmap b 0 1 8", 4),
+    ("bitmap b 1 4097 9", 4),
+    ("blt screen 0 0 32768 1 x 0 0 - 0 0 - AAAA", 4),
+    ("brushorg 32767 0", 4),
+    ("copy screen 0 0 1 1 mono 0 -32769", 4),
+    ("dump 1", 4),
+    ("sum -1", 4),
+    ("paint screen 1 0 0 1 red 0", 4),
+    ("paint screen 0 0 1 1 red 17", 4),
+    ("pixels mono 0 32767 2", 4),
+    ("bitmap b 1 1 1 red", 5),
+    ("blt none 32768 0 1 1 - 0 0 - 0 0 - AAAA", 5),
+    ("blt screen 1 0 0 1 red 0 0 - 0 0 - AAAA", 5),
+    ("blt screen 0 0 1 1 - 0 0 screen 0 0 - AAAA", 5),
+    ("blt screen 0 0 1 1 - 0 0 - 0 0 mono AAAA", 5),
+    ("brush b pattern screen", 5),
+    ("brush b pattern two", 5),
+    ("copy screen 0 0 1 1 - 0 0", 5),
+    ("delete red", 5),
+    ("delete screen", 5),
+    ("dump Mono", 5),
+    ("sum screen", 5),
+    ("paint two 0 0 1 1 red 13", 5),
+    ("paint screen 0 0 1 1 - 0", 5),
+    ("pixels screen 0 0 00", 5),
+    ("blt screen 0 0 1 1 red2 0 0 - 0 0 - AAAA", 5),
+    ("bitmap screen 0 1 8", 6),
+    ("brush none striped", 6),
+    ("table mono 00000 000000", 6),
+    ("bitmap 1b 0 1 8", 7),
+    ("brush - striped", 7),
+    ("table b! 00000 000000", 7),
+    ("brush aaaaaaaaaaaaaaaaaaaaaaaaaaaaaaaaa solid 000000", 7),
+    ("blt screen 1 0 0 1 - 0 0 - 0 0 - CCCC", 8),
+    ("copy screen 0 1 1 0 mono 0 0", 8),
+    ("paint screen 0 1 0 0 red 13", 8),
+    ("blt screen 0 0 1 1 - 0 0 - 0 0 - CCCC", 9),
+    ("blt screen 0 0 1 1 - 0 0 - 0 0 - F0F0", 9),
+    ("blt screen 0 0 1 1 mono 0 0 - 0 0 - AACC", 9),
+    ("blt screen 0 0 1 1 - 0 0 grey 0 0 - AACC", 9),
+    ("blt screen 0 0 1 1 mono 0 0 grey 0 0 - AACC", 10),
+    ("blt grey 0 0 1 1 mono 0 0 grey 0 0 - AACC", 10),
+    ("blt mono 0 0 1 1 grey 0 0 mono 0 0 - AACC", 11),
+    ("bitmap b 4096 1025 8", 12),
+    ("brush b pattern wide", 12),
+    ("bitmap b 1 1 4 two", 15),
+    ("bitmap b 4096 4096 8 two", 15),
+    ("bitmap b 1 1 32 two", 15),
+    ("blt mono 0 0 1 1 grey 0 0 mono 0 0 - CCCC", 0),
+    ("blt screen 0 0 1 1 - 0 0 grey 0 0 - 5555", 0),
+    ("brush aaaaaaaaaaaaaaaaaaaaaaaaaaaaaaaa solid 000000", 0),
+    ("bitmap b 4096 1024 8", 0),
+    ("bitmap b 1 1 1 two", 0),
+    ("pixels grey 32766 -32768 f F", 0),
+    ("  sum   -0 ", 0),
+    ("brush b pattern mono", 0),
+    ("copy mono 0 0 0 0 mono 0 0", 0),
+    ("paint mono -32768 -32768 32767 32767 red 16", 0),
 ];
 
 /// Scripts, and the line and the number of their refusals; 0 and 0 where the script is taken.
-const SCRIPTS: [(&str, u64, u32); 13] = [
+const SCRIPTS: [(&str, u64, u32); 14] = [
     ("", 0, 0),
     ("\n\n", 0, 0),
     ("# back\n\n   \nback", 4, 2),
@@ -59,6 +147,11 @@ const SCRIPTS: [(&str, u64, u32); 13] = [
         "bitmap b 1 1 8\nbitmap c 1 1 8\ndelete b\ndump c\ndump b",
         5,
         5,
+    ),
+    (
+        "bitmap a 4096 1024 8\nbitmap b 4096 1024 8\nbitmap c 4096 1024 8\nbitmap d 4096 1024 8\nbitmap e 1 1 8",
+        5,
+        12,
     ),
     (
         "bitmap a 4096 1024 8\nbitmap b 4096 1024 8\nbitmap c 4096 1024 8\nbitmap d 4096 1024 8\ndelete b\nbitmap e 4096 1024 8\nbitmap f 1 1 8",
@@ -81,13 +174,10 @@ fn refusal(alloc: Global, text: &[u8]) -> (u64, u32) {
 #[test]
 fn lines_that_are_refused_or_taken(rt: HostRuntime) -> Result<(), Fail> {
     let alloc = rt.alloc();
-    for i in 0..NUMBERS.len() {
-        let number = NUMBERS[i];
+    for (line, number) in LINES {
+        let text = format!(in alloc; "{NAMES}{line}")?;
         let want = if number == 0 { (0, 0) } else { (6, number) };
-        for line in LINES[i].split('|') {
-            let text = format!(in alloc; "{NAMES}{line}")?;
-            assert_eq!(rt; refusal(alloc, text.as_bytes()), want, "{line:?}");
-        }
+        assert_eq!(rt; refusal(alloc, text.as_bytes()), want, "{line:?}");
     }
     Ok(())
 }
@@ -103,9 +193,53 @@ fn scripts_that_are_refused_or_taken(rt: HostRuntime) {
     }
 }
 
+/// So many numbered lines with these ends before and behind the number.
+fn numbered(alloc: Global, count: u32, front: &str, rest: &str) -> Result<Vec<u8>, AllocError> {
+    let mut text = Vec::new(alloc);
+    for i in 0..count {
+        let line = format!(in alloc; "{front}{i}{rest}\n")?;
+        text.extend_from_slice(line.as_bytes())?;
+    }
+    Ok(text)
+}
+
+#[test]
+fn how_many_of_a_kind(rt: HostRuntime) -> Result<(), Fail> {
+    let alloc = rt.alloc();
+    // The ends of a line, how many are taken, and the number of the refusal of one more.
+    let cases = [
+        ("brush b", " solid 000000", 1024, 12),
+        ("table t", " 000000 FFFFFF", 256, 12),
+        ("bitmap b", " 1 1 8", 4096, 12),
+        ("#", "\nback 000000", 100_000, 14),
+    ];
+    for (front, rest, most, number) in cases {
+        let text = numbered(alloc, most, front, rest)?;
+        assert_eq!(rt; refusal(alloc, &text), (0, 0), "{front}");
+        let text = numbered(alloc, most + 1, front, rest)?;
+        let line = if number == 14 { 2 * most + 2 } else { most + 1 };
+        assert_eq!(rt; refusal(alloc, &text), (u64::from(line), number), "{front}");
+    }
+    Ok(())
+}
+
 /// A script with each command.
-const SCRIPT: &str =
-    "back 010203\nbrushorg -1 5\ntable two 010203 FFFFFF\nbitmap mono 4 2 1 two\nbitmap deep 3 5 555\nbrush dots pattern mono\nback FFFFFF\nbrush lines hatch cross 010203 040506\nblt deep 0 0 2 2 screen 1 1 mono 0 -1 lines b8AA\nblt screen 0 0 2 2 mono 1 1 deep 0 -1 - cccc\ncopy screen -3 0 4 4 deep 7 8\npaint mono 0 0 1 1 #010203 6\npixels deep 1 2 7FFF 0001\ndump 0\nsum deep\ndelete mono";
+const SCRIPT: &str = "back 102030
+brushorg -1 5
+table two 010203 FFFFFF
+bitmap mono 4 2 1 two
+bitmap deep 3 5 555
+brush dots pattern mono
+back FFFFFF
+brush lines hatch cross 010203 040506
+blt deep 0 0 2 2 screen 1 1 mono 0 -1 lines b8AA
+blt screen 0 0 2 2 mono 1 1 deep 0 -1 - cccc
+copy screen -3 0 4 4 deep 7 8
+paint mono 0 0 1 1 #0A0B0C 6
+pixels deep 1 2 7FFF 0001
+dump 0
+sum deep
+delete mono";
 
 /// The rectangle of these edges.
 fn rect(left: i32, top: i32, right: i32, bottom: i32) -> Rect {
@@ -124,6 +258,12 @@ const WHITE: Rgb = Rgb {
 };
 
 const DARK: Rgb = Rgb { r: 1, g: 2, b: 3 };
+
+const SOLID: Rgb = Rgb {
+    r: 10,
+    g: 11,
+    b: 12,
+};
 
 /// A source as two numbers: its kind, and its bitmap or the sum of its values.
 fn feed(source: &Feed) -> (u32, u64) {
@@ -151,7 +291,7 @@ fn drawings() -> [Drawing; 5] {
     let mixed = paint(rect(0, 0, 1, 1), 6);
     let row = copy(rect(1, 2, 3, 3), Point { x: 0, y: 0 });
     let none = BrushUse::Nothing;
-    let solid = BrushUse::Colour(DARK);
+    let solid = BrushUse::Colour(SOLID);
     [
         (Spot::Bitmap(1), masked, (1, 0), Some(0), BrushUse::Made(1)),
         (Spot::Desk, plain, (2, 0), None, none),
@@ -268,7 +408,11 @@ fn brushes_and_texts_of_a_script(rt: HostRuntime) {
     let dots = BrushOrder {
         number: 0,
         face: FaceOrder::Pattern { bitmap: 0 },
-        back: DARK,
+        back: Rgb {
+            r: 16,
+            g: 32,
+            b: 48,
+        },
     };
     let fore = Rgb { r: 4, g: 5, b: 6 };
     let lines = BrushOrder {
@@ -278,7 +422,18 @@ fn brushes_and_texts_of_a_script(rt: HostRuntime) {
     };
     assert_eq!(rt; brush(&script, 5), Some(dots));
     assert_eq!(rt; brush(&script, 7), Some(lines));
+    for i in [0, 1, 2, 6] {
+        assert!(rt;
+            matches!(script.commands().get(i), Some(ScriptCommand::Nothing)),
+            "{i}"
+        );
+    }
     let commands = script.commands();
-    assert!(rt; matches!(commands.get(6), Some(ScriptCommand::Nothing)));
+    assert!(rt;
+        matches!(
+            commands.get(13),
+            Some(ScriptCommand::Dump(Named::Screen(0)))
+        )
+    );
     assert!(rt; matches!(commands.get(14), Some(ScriptCommand::Sum(Named::Bitmap(1)))));
 }
