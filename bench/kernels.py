@@ -8,30 +8,18 @@ Each is the difference of two runs of the program `kernel_bench` with other coun
 """
 from pathlib import Path
 
-from timing import least, options
+from timing import least, options, seconds_each
 
 PIXELS = 1024 * 768
 PAINTS = ["solid", "xor", "hatch", "pattern"]
 OTHERS = ["copy", "self", "masked", "b8", "66"]
-FEW = 2
 # about so many seconds are spent on a case
 LONG = 0.15
 
 
-def times(program, name, count, runs):
-    return least([program, name, str(count)], b"", runs)
-
-
 def spent(program, name, runs):
     """The seconds that an operation takes once."""
-    start = times(program, name, FEW, runs)
-    count = 8
-    while True:
-        more = times(program, name, FEW + count, 1) - start
-        if more > LONG / 4 or count > 100_000:
-            break
-        count *= 4
-    return (times(program, name, FEW + count, runs) - start) / count
+    return seconds_each(lambda count, tries: least([program, name, str(count)], b"", tries), runs, LONG, 400_000)
 
 
 def main():

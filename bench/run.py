@@ -10,12 +10,11 @@ import subprocess
 import sys
 from pathlib import Path
 
-from timing import GDI, least
+from timing import GDI, least, seconds_each
 
 WIDTH, HEIGHT = 1024, 768
 CONFIG = '[[screen]]\nkind = "linear"\nx = 0\ny = 0\nwidth = 1\nheight = 1\nformat = "8"\n%%\n'
 FORMATS = {8: "8", 16: "565", 32: "32"}
-FEW = 2
 # about so many seconds are spent on the longer run of a case
 LONG = 0.3
 
@@ -60,11 +59,7 @@ def text(depth, line, count):
 
 def spent(gdi, depth, line, runs):
     """The seconds that a command takes."""
-    start = least([gdi, "run"], text(depth, line, FEW), runs)
-    count = 8
-    while least([gdi, "run"], text(depth, line, FEW + count), 1) - start < LONG / 4 and count < 90_000 / 4:
-        count *= 4
-    return max(least([gdi, "run"], text(depth, line, FEW + count), runs) - start, 1e-9) / count
+    return seconds_each(lambda count, tries: least([gdi, "run"], text(depth, line, count), tries), runs, LONG, 90_000)
 
 
 def memory_of(program, depth):

@@ -5,6 +5,7 @@ import time
 from pathlib import Path
 
 GDI = Path("crates/gdi_tool/out/gdi_tool")
+FEW = 2
 
 
 def options(program, runs):
@@ -24,3 +25,13 @@ def least(words, data, runs):
         subprocess.run(words, input=data, stdout=subprocess.DEVNULL, check=True)
         times.append(time.perf_counter() - start)
     return min(times)
+
+
+def seconds_each(spent, runs, long, most):
+    """The seconds that one more of something takes: the difference of two counts of it, of which the greater takes a quarter of
+    `long` seconds or more, or is near `most`. `spent(count, runs)` gives the least time of some runs of a count."""
+    start = spent(FEW, runs)
+    count = 8
+    while spent(FEW + count, 1) - start < long / 4 and count < most / 4:
+        count *= 4
+    return max(spent(FEW + count, runs) - start, 1e-9) / count
