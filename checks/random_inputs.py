@@ -17,8 +17,8 @@ from pathlib import Path
 from asking import oracles_answer, programs_answer
 from random_scripts import random_script
 
-BUILT = {b"table", b"bitmap", b"delete", b"pixels", b"brush", b"brushorg", b"back", b"region", b"blt", b"copy",
-         b"paint", b"dump", b"sum"}
+BUILT = {b"table", b"bitmap", b"delete", b"pixels", b"brush", b"brushorg", b"back", b"region", b"clip", b"blt",
+         b"copy", b"paint", b"dump", b"sum"}
 SIDE = rb"([1-9][0-9]{0,3})"
 CONFIG = re.compile(
     rb'\[\[screen\]\]\nkind = "linear"\nx = 0\ny = 0\nwidth = ' + SIDE

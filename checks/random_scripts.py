@@ -6,16 +6,17 @@ COLOURS = {"1": 2, "4": 16, "8": 256}
 HATCHES = ["horizontal", "vertical", "fdiagonal", "bdiagonal", "cross", "diagcross"]
 OPERATIONS = ["union", "intersect", "subtract", "xor"]
 BYTES = ["CC", "66", "F0", "AA", "5A", "00", "FF", "B8", "E2", "55", "33", "88", "EE", "0F"]
-UNBUILT = ["clip none", "devbitmap d 0 1 1", "stretch screen 0 0 1 1 screen 0 0 1 1 n",
+UNBUILT = ["devbitmap d 0 1 1", "stretch screen 0 0 1 1 screen 0 0 1 1 n",
            "transparent screen 0 0 1 1 screen 0 0 1 1 000000", "gradient screen 0 0 1 1 h 000000000000 FFFFFFFFFFFF",
            "line screen 0 0 1 1 #000000 13", "stroke screen solid #000000 13 0 0 1 1", "font f",
-           "glyph f 41 1 1 0 0 1 80", "text screen f 0 0 #000000 - 0 0 0 0 41", "clip", "frob"]
+           "glyph f 41 1 1 0 0 1 80", "text screen f 0 0 #000000 - 0 0 0 0 41", "frob"]
 JUNK = ["", "-", "x", "#", "#12345", "#1234567", "#GG0000", "0", "-1", "-0", "007", "99999", "1234567890",
         "screen", "none", "a1", "_a", "a" * 33, "a" * 32, "zz", "GG", "solid", "hatch", "pattern", "32767",
         "32768", "-32768", "-32769", "65", "16", "17", "13", "013", "\u00e9", "\t", "%%", "#000000", "1e3", "+1",
         "CCCC", "aacc", "F0F", "4096", "4097", "1025", "8", "555", "2", "ff", "00000000"]
 WEIGHTS = {"paint": 6, "copy": 4, "shift": 5, "blt": 12, "bitmap": 2, "noise": 3, "pixels": 3, "solid": 1, "hatch": 2,
-           "pattern": 3, "table": 1, "region": 2, "delete": 1, "brushorg": 2, "back": 2, "dump": 3, "sum": 2, "skipped": 1}
+           "pattern": 3, "table": 1, "region": 3, "clip": 4, "delete": 1, "brushorg": 2, "back": 2, "dump": 3, "sum": 2,
+           "skipped": 1}
 
 
 def needs(byte):
@@ -146,6 +147,16 @@ class Script:
             words = known
         self.say("region", name, form, *words)
         self.regions.append(name)
+
+    def clip(self):
+        """A known region, or none; now and then a name of another kind, or an unknown one."""
+        if not self.regions and self.chance.random() < 0.6:
+            self.region()
+        if self.chance.random() < 0.03:
+            name = self.chance.choice(["nothing", "screen", "-", self.bitmap_name(), *self.brushes, *self.tables])
+        else:
+            name = self.chance.choice(self.regions) if self.regions and self.chance.random() < 0.75 else "none"
+        self.say("clip", name)
 
     def brushorg(self):
         self.say("brushorg", self.coordinate(12), self.coordinate(12))

@@ -79,7 +79,8 @@ impl Region {
         self.rects.as_slice()
     }
 
-    fn combined(
+    /// The points of an operation on this one and another.
+    pub fn combined(
         &self,
         alloc: Global,
         operation: Operation,

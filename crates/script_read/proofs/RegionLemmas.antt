@@ -1,4 +1,4 @@
-use Rattle.std.proofs.Common.{◌≡◌, ◌∙◌, ap, sym, subst, refl, arith, map, length, List, [], ◌∷◌, Bool, true, false, ◌&&◌, ◌||◌, not, ℕ, drop, nat_le, if◌then◌else◌, Result, Ok, Err, ◌≤◌, ◌<◌, ℤ, ◌↔◌, IsTrue}
+use Rattle.std.proofs.Common.{◌≡◌, ◌∙◌, ap, sym, subst, refl, arith, map, length, List, [], ◌∷◌, Bool, true, false, ◌&&◌, ◌||◌, not, ℕ, drop, nat_le, Some, if◌then◌else◌, Result, Ok, Err, ◌≤◌, ◌<◌, ℤ, ◌↔◌, IsTrue}
 use Rattle.std.specs.List.{All, list_all}
 use Rattle.std.proofs.lemmas.Bool.{false≢true}
 use Rattle.std.proofs.lemmas.Bool.Decides.{nat_tests}
@@ -11,18 +11,17 @@ use Rattle.region.specs.declared.refusal.RegionRefusal.{RegionRefusal}
 use Rattle.region.specs.declared.refusal.RegionRefusal.TheVariants.{TooMany, NoMemory}
 use Rattle.region.specs.Canonical.{canonical_rects, Gives}
 use Rattle.region.specs.Moved.{moved_back}
-use Rattle.region.specs.Refusal.{IsAnswer}
+use Rattle.region.specs.Operation.{holds_after}
 use Rattle.region.specs.Window.{IsEdge, HasEdges, Within}
-use Rattle.region.proofs.CanonicalLaws.{answer_is_canonical, rects_lie_within, either_lies_within, part_lies_within, one_lies_within}
 use Rattle.script_words.specs.declared.fault.Fault.{Fault}
 use Rattle.script_words.specs.declared.fault.Fault.TheVariants.{Range, PastLimit, RegionTooLarge}
 use Rattle.script_words.specs.Asking.{◌>>=◌, ask}
 use Rattle.script_words.specs.Lines.{word_at}
 use Rattle.script_words.specs.Places.{IsCoordinate, AreCoordinates, is_well_ordered}
-use Rattle.script_read.specs.declared.operation.Operation.TheVariants.{Union, Intersect, Subtract, Xor}
+use Rattle.region.specs.declared.operation.Operation.{Operation}
 use Rattle.script_read.specs.Commands.{has_room_for_rects, keep_region, read_region}
 use Rattle.script_read.specs.Names.{NameMap}
-use Rattle.script_read.specs.Regions.{holds_after, is_edge, has_edges, rects_from, listed_at, region_at, shift_at, shifted_at, named_region_at, FindsRegion}
+use Rattle.script_read.specs.Regions.{combined_at, is_edge, has_edges, rects_from, listed_at, region_at, shift_at, shifted_at, named_region_at, FindsRegion}
 use Rattle.script_read.specs.State.{State}
 
 -- coordinates of rectangles are coordinates of edges
@@ -77,22 +76,12 @@ same_test false false f g = refl
 pub tests_within : (told : Bool) (rects : List Rect) → (IsTrue told ↔ Within rects) → told ≡ list_all has_edges rects
 tests_within told rects h = same_test told (list_all has_edges rects) (λ e. within_test rects (h.0 e)) (λ e. h.1 (within_from rects e))
 
--- what an operation answers gives the list of its points
-pub union_gives : (a b : List Rect) (answer : Result (List Rect) RegionRefusal) → Within a → Within b → IsAnswer (λ p. is_in_some p a || is_in_some p b) answer → Gives (canonical_rects (λ p. holds_after Union (is_in_some p a) (is_in_some p b))) answer
-union_gives a b answer h k e = answer_is_canonical (λ p. is_in_some p a || is_in_some p b) answer (either_lies_within (λ p. is_in_some p a) (λ p. is_in_some p b) (rects_lie_within a h) (rects_lie_within b k)) e
-
-pub intersect_gives : (a b : List Rect) (answer : Result (List Rect) RegionRefusal) → Within a → IsAnswer (λ p. is_in_some p a && is_in_some p b) answer → Gives (canonical_rects (λ p. holds_after Intersect (is_in_some p a) (is_in_some p b))) answer
-intersect_gives a b answer h e = answer_is_canonical (λ p. is_in_some p a && is_in_some p b) answer (part_lies_within (λ p. is_in_some p a) (λ p. is_in_some p b) (rects_lie_within a h)) e
-
-pub subtract_gives : (a b : List Rect) (answer : Result (List Rect) RegionRefusal) → Within a → IsAnswer (λ p. is_in_some p a && not (is_in_some p b)) answer → Gives (canonical_rects (λ p. holds_after Subtract (is_in_some p a) (is_in_some p b))) answer
-subtract_gives a b answer h e = answer_is_canonical (λ p. is_in_some p a && not (is_in_some p b)) answer (part_lies_within (λ p. is_in_some p a) (λ p. not (is_in_some p b)) (rects_lie_within a h)) e
-
-pub xor_gives : (a b : List Rect) (answer : Result (List Rect) RegionRefusal) → Within a → Within b → IsAnswer (λ p. if is_in_some p a then not (is_in_some p b) else is_in_some p b) answer → Gives (canonical_rects (λ p. holds_after Xor (is_in_some p a) (is_in_some p b))) answer
-xor_gives a b answer h k e = answer_is_canonical (λ p. if is_in_some p a then not (is_in_some p b) else is_in_some p b) answer (one_lies_within (λ p. is_in_some p a) (λ p. is_in_some p b) (rects_lie_within a h) (rects_lie_within b k)) e
-
 -- the lines of the definition, one after the other
 pub listed_found : (words : List (List ℕ)) (rects : List Rect) → rects_from (drop 3 words) ≡ Ok rects → list_all is_well_ordered rects ≡ true → listed_at words ≡ Ok (canonical_rects (λ p. is_in_some p rects))
 listed_found words rects e ordered = rw (e, ordered) refl
+
+pub combined_found : (operation : Operation) (names : NameMap) (words : List (List ℕ)) (a b : List Rect) → region_at names (word_at words 3) ≡ Ok a → region_at names (word_at words 4) ≡ Ok b → combined_at (Some operation) names words ≡ Ok (canonical_rects (λ p. holds_after operation (is_in_some p a) (is_in_some p b)))
+combined_found operation names words a b known other = rw (known, other) refl
 
 pub shift_found : (names : NameMap) (words : List (List ℕ)) (rects : List Rect) (by : Point) → region_at names (word_at words 3) ≡ Ok rects → shift_at words ≡ Ok by → list_all has_edges (map (λ r. moved_rect r by) rects) ≡ true →
     shifted_at names words ≡ Ok (canonical_rects (λ p. is_in_some (moved_back by p) rects))

@@ -19,13 +19,6 @@ pub record Asked : Type 0 where
   pub commands : List ScriptCommand
   pub names : List (List ℕ)
 
--- the sides of a bitmap are at least 1 and at most 4096
-pub record HasSides (size : Size) : Type 0 where
-  pub least_width : 1 ≤ size.w
-  pub most_width : size.w ≤ 4096
-  pub least_height : 1 ≤ size.h
-  pub most_height : size.h ≤ 4096
-
 -- the sizes that a bitmap may have
 pub record IsSurfaceSize (size : Size) : Type 0 where
   pub least_width : 1 ≤ size.w

@@ -23,7 +23,7 @@ use Rattle.script_read.specs.declared.verb.Verb.TheVariants as verbs
 use Rattle.script_read.specs.Drawing.{feed_from, feed_for, mask_for, has_operands, is_mono, is_other, number_of_mask, row_rect, zero_point, blt_from, copy_from, paint_from}
 use Rattle.script_read.specs.Fields.{new_name, spot_at, bitmap_at, spot_or_none, bitmap_or_none, brush_at, brush_or_none, format_at, table_at, value_at, face_at, named_at}
 use Rattle.script_read.specs.Names.{NameMap, brush, bitmap, region, table, with_name, without_name}
-use Rattle.script_read.specs.Regions.{named_region_at, operation_of}
+use Rattle.script_read.specs.Regions.{clip_at, named_region_at, operation_of}
 use Rattle.script_read.specs.State.{State}
 
 -- a line's meaning: what it asks, and the state after it
@@ -92,7 +92,7 @@ read_blt s words = do
   let bits = mask_for (mask_needed code) mask
   _ ← ask (is_mono bits) MaskNotMono
   _ ← ask (is_other target bits) MaskIsTarget
-  Ok (asked.Draw (record { target = target; call = calls.Blt (blt_from rect src at s.origin code); source = feed_for (source_needed code) source; mask = number_of_mask bits; brush = with; back = s.back }), s)
+  Ok (asked.Draw (record { target = target; call = calls.Blt (blt_from rect src at s.origin code); source = feed_for (source_needed code) source; mask = number_of_mask bits; brush = with; clip = s.clip; back = s.back }), s)
 
 -- brush NAME solid C, brush NAME hatch KIND FORE BACK, and brush NAME pattern BITMAP
 unfoldable pub read_brush : State → List (List ℕ) → Meaning
@@ -116,6 +116,12 @@ read_brushorg s words = do
   origin ← point_at words 1
   Ok (asked.Nothing, record s { origin = origin })
 
+-- clip NAME: a region's name, or `none`
+unfoldable pub read_clip : State → List (List ℕ) → Meaning
+read_clip s words = do
+  clip ← clip_at s.names (word_at words 1)
+  Ok (asked.Nothing, record s { clip = clip })
+
 -- copy TARGET R SRC SX SY
 unfoldable pub read_copy : State → List (List ℕ) → Meaning
 read_copy s words = do
@@ -124,7 +130,7 @@ read_copy s words = do
   source ← spot_at s.names (word_at words 6)
   src ← point_at words 7
   _ ← ask (is_well_ordered rect) NotOrdered
-  Ok (asked.Draw (record { target = target; call = calls.Copy (copy_from rect src); source = feed_from source; mask = None; brush = uses.Nothing; back = s.back }), s)
+  Ok (asked.Draw (record { target = target; call = calls.Copy (copy_from rect src); source = feed_from source; mask = None; brush = uses.Nothing; clip = s.clip; back = s.back }), s)
 
 -- delete NAME
 unfoldable pub read_delete : State → List (List ℕ) → Meaning
@@ -155,7 +161,7 @@ read_paint s words = do
   with ← brush_at s.names (word_at words 6)
   mix ← count_in 1 16 (word_at words 7)
   _ ← ask (is_well_ordered rect) NotOrdered
-  Ok (asked.Draw (record { target = target; call = calls.Paint (paint_from rect s.origin mix); source = feeds.Nothing; mask = None; brush = with; back = s.back }), s)
+  Ok (asked.Draw (record { target = target; call = calls.Paint (paint_from rect s.origin mix); source = feeds.Nothing; mask = None; brush = with; clip = s.clip; back = s.back }), s)
 
 -- pixels NAME X Y V ..
 unfoldable pub read_pixels : State → List (List ℕ) → Meaning
@@ -163,7 +169,7 @@ read_pixels s words = do
   b ← bitmap_at s.names (word_at words 1)
   at ← point_at words 2
   values ← each (value_at b.format) (drop 4 words)
-  Ok (asked.Draw (record { target = spots.Bitmap b.number; call = calls.Copy (copy_from (row_rect at (length values)) zero_point); source = feeds.Row values; mask = None; brush = uses.Nothing; back = s.back }), s)
+  Ok (asked.Draw (record { target = spots.Bitmap b.number; call = calls.Copy (copy_from (row_rect at (length values)) zero_point); source = feeds.Row values; mask = None; brush = uses.Nothing; clip = s.clip; back = s.back }), s)
 
 -- one more region of so many rectangles fits
 abbrev pub has_room_for_rects : State → ℕ → Bool
@@ -227,6 +233,7 @@ count_fits verbs.Bitmap words = length words == 5 || length words == 6
 count_fits verbs.Blt words = length words == 14
 count_fits verbs.Brush words = form_fits (word_at words 2) (length words)
 count_fits verbs.Brushorg words = length words == 3
+count_fits verbs.Clip words = length words == 2
 count_fits verbs.Copy words = length words == 9
 count_fits verbs.Delete words = length words == 2
 count_fits verbs.Dump words = length words == 2
@@ -242,6 +249,7 @@ meaning_of verbs.Bitmap s words = read_bitmap s words
 meaning_of verbs.Blt s words = read_blt s words
 meaning_of verbs.Brush s words = read_brush s words
 meaning_of verbs.Brushorg s words = read_brushorg s words
+meaning_of verbs.Clip s words = read_clip s words
 meaning_of verbs.Copy s words = read_copy s words
 meaning_of verbs.Delete s words = read_delete s words
 meaning_of verbs.Dump s words = read_dump s words
@@ -258,6 +266,7 @@ spelling_of verbs.Bitmap = codes "bitmap"
 spelling_of verbs.Blt = codes "blt"
 spelling_of verbs.Brush = codes "brush"
 spelling_of verbs.Brushorg = codes "brushorg"
+spelling_of verbs.Clip = codes "clip"
 spelling_of verbs.Copy = codes "copy"
 spelling_of verbs.Delete = codes "delete"
 spelling_of verbs.Dump = codes "dump"
@@ -268,7 +277,7 @@ spelling_of verbs.Sum = codes "sum"
 spelling_of verbs.Table = codes "table"
 
 abbrev pub all_verbs : List Verb
-all_verbs = verbs.Back ∷ verbs.Bitmap ∷ verbs.Blt ∷ verbs.Brush ∷ verbs.Brushorg ∷ verbs.Copy ∷ verbs.Delete ∷ verbs.Dump ∷ verbs.Paint ∷ verbs.Pixels ∷ verbs.Region ∷ verbs.Sum ∷ verbs.Table ∷ []
+all_verbs = verbs.Back ∷ verbs.Bitmap ∷ verbs.Blt ∷ verbs.Brush ∷ verbs.Brushorg ∷ verbs.Clip ∷ verbs.Copy ∷ verbs.Delete ∷ verbs.Dump ∷ verbs.Paint ∷ verbs.Pixels ∷ verbs.Region ∷ verbs.Sum ∷ verbs.Table ∷ []
 
 -- the command that a word names
 abbrev pub verb_among : List Verb → List ℕ → Result Verb Fault

@@ -1,5 +1,6 @@
 //! A drawing on the desk or on a bitmap.
 
+use crate::named_region::NamedRegion;
 use crate::values::Values;
 use brush_obj::DrawCall;
 use pix_format::Rgb;
@@ -30,7 +31,7 @@ pub enum BrushUse {
     Made(u32),
 }
 
-/// A drawing, with the background colour in force. Source and mask are those that the call needs. The call has the command's own
+/// A drawing, with the clip and the background colour in force. Source and mask are those that the call needs. The call has the command's own
 /// coordinates; its `target` and `held` aren't read.
 #[derive(Drop)]
 pub struct DeskCommand {
@@ -39,5 +40,7 @@ pub struct DeskCommand {
     pub source: Feed,
     pub mask: Option<u32>,
     pub brush: BrushUse,
+    /// The clip in force, in the target's own coordinates; none where there is no clip.
+    pub clip: Option<NamedRegion>,
     pub back: Rgb,
 }

@@ -49,6 +49,7 @@ pub fn blt(reader: &Reader<'_>, words: &[&[u8]]) -> Result<ScriptCommand, ReadEr
     if !is_other(target, bits) {
         return Err(ReadError::Fault(Fault::MaskIsTarget));
     }
+    let clip = reader.shared_clip()?;
     Ok(ScriptCommand::Draw(DeskCommand {
         target,
         call: DrawCall::Blt(BltCall {
@@ -63,6 +64,7 @@ pub fn blt(reader: &Reader<'_>, words: &[&[u8]]) -> Result<ScriptCommand, ReadEr
         source: feed_for(needs_source(rop), source),
         mask: number_of_mask(bits),
         brush: with,
+        clip,
         back: reader.back,
     }))
 }
@@ -92,12 +94,14 @@ pub fn copy(reader: &Reader<'_>, words: &[&[u8]]) -> Result<ScriptCommand, ReadE
     if !well_ordered(&rect) {
         return Err(ReadError::Fault(Fault::NotOrdered));
     }
+    let clip = reader.shared_clip()?;
     Ok(ScriptCommand::Draw(DeskCommand {
         target,
         call: copy_from(rect, src),
         source: feed_from(source),
         mask: None,
         brush: BrushUse::Nothing,
+        clip,
         back: reader.back,
     }))
 }
@@ -115,6 +119,7 @@ pub fn paint(reader: &Reader<'_>, words: &[&[u8]]) -> Result<ScriptCommand, Read
     if !well_ordered(&rect) {
         return Err(ReadError::Fault(Fault::NotOrdered));
     }
+    let clip = reader.shared_clip()?;
     Ok(ScriptCommand::Draw(DeskCommand {
         target,
         call: DrawCall::Paint(PaintCall {
@@ -126,6 +131,7 @@ pub fn paint(reader: &Reader<'_>, words: &[&[u8]]) -> Result<ScriptCommand, Read
         source: Feed::Nothing,
         mask: None,
         brush: with,
+        clip,
         back: reader.back,
     }))
 }
@@ -144,12 +150,14 @@ pub fn pixels(
     let bitmap = bitmap(&reader.names, word(words, 1))?;
     let at = point(words, 2)?;
     let row = values(alloc, bitmap.format, words, 4)?;
+    let clip = reader.shared_clip()?;
     Ok(ScriptCommand::Draw(DeskCommand {
         target: Spot::Bitmap(bitmap.number),
         call: copy_from(row_rect(at, row.len()), Point { x: 0, y: 0 }),
         source: Feed::Row(Values::of(row)),
         mask: None,
         brush: BrushUse::Nothing,
+        clip,
         back: reader.back,
     }))
 }

@@ -6,7 +6,7 @@ ghost use Rattle.pix_format.specs.Value.{colours_of};
 ghost use Rattle.script_words.specs.Asking.{Gives};
 ghost use Rattle.script_words.specs.Spelling.{count_in};
 ghost use Rattle.script_read.specs.Names.{names_of};
-ghost use Rattle.script_read.specs.Regions.{region_at};
+ghost use Rattle.script_read.specs.Regions.{clip_at, region_at};
 ghost use Rattle.script_read.specs.Fields.{new_name, spot_at, bitmap_at, table_at, is_dash, spot_or_none, bitmap_or_none, brush_at, brush_or_none, format_at, value_at, hatch_at, named_at};
 
 use crate::desk_command::{BrushUse, Spot};
@@ -63,6 +63,17 @@ pub fn region<'n>(names: &'n Names<'_>, word: &[u8]) -> Result<&'n NamedRegion, 
     match names.get(word) {
         Some(Entry::Region(region)) => Ok(region),
         _ => Err(Fault::UnknownName),
+    }
+}
+
+/// A clip: none, or a region.
+pub fn clip(names: &Names<'_>, word: &[u8]) -> Result<Option<NamedRegion>, ReadError>
+    ensures { Gives (λ c. c) result (clip_at (names_of names.now) word.now) }
+{
+    match names.get(word) {
+        Some(Entry::NoClip) => Ok(None),
+        Some(Entry::Region(region)) => Ok(Some(region.shared()?)),
+        _ => Err(ReadError::Fault(Fault::UnknownName)),
     }
 }
 

@@ -31,6 +31,7 @@ mod verb;
 
 pub use desk_command::{BrushUse, DeskCommand, Feed, Spot};
 pub use named::Named;
+pub use named_region::NamedRegion;
 pub use orders::{BrushOrder, CreateOrder, FaceOrder};
 pub use reading::read_script;
 pub use refusal::ScriptRefusal;

@@ -39,6 +39,14 @@ impl NamedRegion {
         Ok(NamedRegion { region })
     }
 
+    /// Another owner of the same region. No memory is taken; the number of owners has an end.
+    pub fn shared(&self) -> Result<NamedRegion, AllocError>
+        ensures { IfOk result (λ r. r ≡ self.now) }
+    {
+        let region = self.region.clone()?;
+        Ok(NamedRegion { region })
+    }
+
     /// Its points.
     pub fn region(&self) -> &Region
         ensures value { result.now ≡ self.now }

@@ -3,8 +3,9 @@
 ghost use Rattle.std.specs.Prelude.{◌≡◌, ◌<◌, ◌≤◌, ◌+◌, IfOk, IsTrue, OnOk, length, map};
 ghost use Rattle.script_words.specs.Lines.{word_at};
 ghost use Rattle.pix_format.specs.Value.{colours_of};
+ghost use Rattle.surf_obj.specs.Layout.{HasSides};
 ghost use Rattle.script_words.specs.Asking.{Gives};
-ghost use Rattle.script_read.specs.Asked.{CanDo, HasSides, IsSurfaceSize};
+ghost use Rattle.script_read.specs.Asked.{CanDo, IsSurfaceSize};
 ghost use Rattle.script_read.specs.Names.{names_of};
 ghost use Rattle.script_read.specs.State.{Reads, state_of};
 ghost use Rattle.script_read.specs.Commands.{has_room, has_room_for, create_at, keep_bitmap, read_bitmap, read_brush, read_delete, read_table};

@@ -1,22 +1,9 @@
-//! The operations on two regions.
+//! The words of the operations on two regions.
 
 ghost use Rattle.std.specs.Prelude.{◌≡◌};
-ghost use Rattle.region.specs.Canonical.{Gives, canonical_rects};
-ghost use Rattle.geom_base.specs.Points.{is_in_some};
-ghost use Rattle.script_read.specs.Regions.{holds_after, operation_of};
+ghost use Rattle.script_read.specs.Regions.{operation_of};
 
-use crate::named_region::NamedRegion;
-use region::{Region, RegionRefusal};
-use std::alloc::Global;
-
-/// An operation on two regions.
-#[derive(Clone, Copy, Debug, PartialEq, Eq)]
-pub enum Operation {
-    Union,
-    Intersect,
-    Subtract,
-    Xor,
-}
+use region::Operation;
 
 /// The operation of a word.
 pub fn operation_named(word: &[u8]) -> Option<Operation>
@@ -32,24 +19,5 @@ pub fn operation_named(word: &[u8]) -> Option<Operation>
         Some(Operation::Xor)
     } else {
         None
-    }
-}
-
-/// The region of an operation.
-pub fn combined(
-    alloc: Global,
-    operation: Operation,
-    a: &NamedRegion,
-    b: &NamedRegion,
-) -> Result<Region, RegionRefusal>
-    ensures { Gives (canonical_rects (λ p. holds_after operation (is_in_some p a.now) (is_in_some p b.now))) result }
-{
-    let first = a.region();
-    let second = b.region();
-    match operation {
-        Operation::Union => first.union(alloc, second),
-        Operation::Intersect => first.intersect(alloc, second),
-        Operation::Subtract => first.subtract(alloc, second),
-        Operation::Xor => first.xor(alloc, second),
     }
 }

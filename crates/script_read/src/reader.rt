@@ -4,7 +4,8 @@ ghost use Rattle.std.specs.Prelude.{All, ◌≡◌, ◌<◌, ◌≤◌, ◌+◌,
 
 use crate::drawings::{blt, copy, paint, pixels};
 use crate::entry::Entry;
-use crate::fields::named;
+use crate::fields::{clip, named};
+use crate::named_region::NamedRegion;
 use crate::names::Names;
 use crate::naming::{bitmap, brush, delete, table};
 use crate::regions::region;
@@ -31,6 +32,7 @@ pub struct Reader<'a> {
     /// The names of all bitmaps that were made.
     pub(crate) made: Vec<&'a [u8]>,
     pub(crate) origin: Point,
+    pub(crate) clip: Option<NamedRegion>,
     pub(crate) back: Rgb,
     ghost few_names: { live ≤ 10000 },
     ghost few_brushes: { brushes ≤ 1024 },
@@ -46,7 +48,7 @@ impl<'a> Reader<'a> {
     ghost use Rattle.script_read.specs.Asked.{CanDo};
     ghost use Rattle.script_read.specs.State.{Reads, first_state, state_of};
     ghost use Rattle.script_read.specs.Reading.{ReadsText, read_text_line};
-    ghost use Rattle.script_read.specs.Commands.{meaning_of, read_back, read_brushorg, read_dump, read_line, read_sum};
+    ghost use Rattle.script_read.specs.Commands.{meaning_of, read_back, read_brushorg, read_clip, read_dump, read_line, read_sum};
 
     /// What is known before the first line.
     pub fn new(alloc: Global) -> Result<Reader<'a>, AllocError>
@@ -65,6 +67,7 @@ impl<'a> Reader<'a> {
             rectangles: 0,
             made: Vec::new(alloc),
             origin: Point { x: 0, y: 0 },
+            clip: None,
             back: Rgb {
                 r: 255,
                 g: 255,
@@ -98,6 +101,16 @@ impl<'a> Reader<'a> {
         Ok(Some(command))
     }
 
+    /// The clip in force, with one owner more.
+    pub(crate) fn shared_clip(&self) -> Result<Option<NamedRegion>, AllocError>
+        ensures { IfOk result (λ c. c ≡ (state_of self.now).clip) }
+    {
+        match &self.clip {
+            Some(region) => Ok(Some(region.shared()?)),
+            None => Ok(None),
+        }
+    }
+
     /// back C
     #[tactic(auto, unfolding(crate::specs::Commands::read_back))]
     fn set_back(&mut self, words: &[&[u8]]) -> Result<ScriptCommand, ReadError>
@@ -117,6 +130,17 @@ impl<'a> Reader<'a> {
         ensures made { IfOk result (λ _. length self.new.made.items ≤ length self.old.made.items + 1) }
     {
         self.origin = point(words, 1)?;
+        Ok(ScriptCommand::Nothing)
+    }
+
+    /// clip NAME
+    #[tactic(auto, unfolding(crate::specs::Commands::read_clip))]
+    fn set_clip(&mut self, words: &[&[u8]]) -> Result<ScriptCommand, ReadError>
+        ensures value { Reads result (state_of self.new) (read_clip (state_of self.old) (map (λ w. w.now) words.now)) }
+        ensures can { IfOk result CanDo }
+        ensures made { IfOk result (λ _. length self.new.made.items ≤ length self.old.made.items + 1) }
+    {
+        self.clip = clip(&self.names, word(words, 1))?;
         Ok(ScriptCommand::Nothing)
     }
 
@@ -185,6 +209,7 @@ impl<'a> Reader<'a> {
             Verb::Blt => blt(self, words),
             Verb::Brush => brush(self, words),
             Verb::Brushorg => self.set_origin(words),
+            Verb::Clip => self.set_clip(words),
             Verb::Copy => copy(self, words),
             Verb::Delete => delete(self, words),
             Verb::Dump => self.dump(words),

@@ -19,12 +19,12 @@ use crate::fields::{new_name, region as known_region};
 use crate::named_region::NamedRegion;
 use crate::names::Names;
 use crate::naming::has_room;
-use crate::operation::{Operation, combined, operation_named};
+use crate::operation::operation_named;
 use crate::reader::Reader;
 use crate::script_command::ScriptCommand;
 use crate::tails::rects;
 use geom_base::{Point, Rect};
-use region::{Region, RegionRefusal};
+use region::{Operation, Region, RegionRefusal};
 use script_words::{Fault, ReadError, number, well_ordered, word};
 use std::alloc::Global;
 
@@ -59,7 +59,7 @@ fn operated(names: &Names<'_>, alloc: Global, by: Option<Operation>, words: &[&[
     };
     let a = known_region(names, word(words, 3))?;
     let b = known_region(names, word(words, 4))?;
-    Ok(combined(alloc, by, a, b))
+    Ok(a.region().combined(alloc, by, b.region()))
 }
 
 /// Any number.

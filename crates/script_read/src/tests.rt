@@ -1,6 +1,6 @@
 //! Scripts and what they ask, or their first refusal.
 
-use crate::desk_command::{BrushUse, Feed, Spot};
+use crate::desk_command::{BrushUse, DeskCommand, Feed, Spot};
 use crate::named::Named;
 use crate::orders::{BrushOrder, FaceOrder};
 use crate::reading::read_script;
@@ -20,7 +20,7 @@ const NAMES: &str =
     "bitmap mono 4 2 1\nbitmap grey 4 2 4\nbitmap wide 65 1 8\ntable two 000000 FFFFFF\nbrush red solid FF0000\n";
 
 /// Lines behind these names, and the number of each refusal; 0 where the line is taken.
-const LINES: [(&str, u32); 105] = [
+const LINES: [(&str, u32); 116] = [
     ("frame", 1),
     ("Paint screen 0 0 1 1 red 13", 1),
     (" # no comment", 1),
@@ -36,6 +36,9 @@ const LINES: [(&str, u32); 105] = [
     ("brush 1 hatch cross 000000", 2),
     ("brush b pattern mono mono", 2),
     ("brushorg 0", 2),
+    ("clip", 2),
+    ("clip none none", 2),
+    ("clip nothing screen", 2),
     ("copy screen 0 0 1 1 mono 0", 2),
     ("delete", 2),
     ("delete mono grey", 2),
@@ -85,6 +88,13 @@ const LINES: [(&str, u32); 105] = [
     ("blt screen 0 0 1 1 - 0 0 - 0 0 mono AAAA", 5),
     ("brush b pattern screen", 5),
     ("brush b pattern two", 5),
+    ("clip nothing", 5),
+    ("clip screen", 5),
+    ("clip mono", 5),
+    ("clip red", 5),
+    ("clip two", 5),
+    ("clip -", 5),
+    ("clip NONE", 5),
     ("copy screen 0 0 1 1 - 0 0", 5),
     ("delete red", 5),
     ("delete screen", 5),
@@ -124,12 +134,13 @@ const LINES: [(&str, u32); 105] = [
     ("pixels grey 32766 -32768 f F", 0),
     ("  sum   -0 ", 0),
     ("brush b pattern mono", 0),
+    ("clip none", 0),
     ("copy mono 0 0 0 0 mono 0 0", 0),
     ("paint mono -32768 -32768 32767 32767 red 16", 0),
 ];
 
 /// Scripts, and the line and the number of their refusals; 0 and 0 where the script is taken.
-const SCRIPTS: [(&str, u64, u32); 14] = [
+const SCRIPTS: [(&str, u64, u32); 17] = [
     ("", 0, 0),
     ("\n\n", 0, 0),
     ("# back\n\n   \nback", 4, 2),
@@ -160,6 +171,9 @@ const SCRIPTS: [(&str, u64, u32); 14] = [
     ),
     ("bitmap a 1 1 8\nbrush a solid 000000", 2, 6),
     ("table t 000000 FFFFFF\nbitmap t 1 1 1 t", 2, 6),
+    ("region r rects\nclip r\nclip none\nclip r", 0, 0),
+    ("clip r\nregion r rects", 1, 5),
+    ("region r rects 0 0 1 1\nclip R", 2, 5),
 ];
 
 /// The line and the number of a refusal; 0 and 0 where there is none.
@@ -337,9 +351,9 @@ fn paint(rect: Rect, mix: u8) -> DrawCall {
     }
 }
 
-/// The script that is read whole.
-fn whole_script(rt: &impl Abort, alloc: Global) -> Script<'static> {
-    match read_script(alloc, SCRIPT.as_bytes(), 1) {
+/// A script that is read whole.
+fn taken(rt: &impl Abort, alloc: Global, text: &'static str) -> Script<'static> {
+    match read_script(alloc, text.as_bytes(), 1) {
         Ok(script) => script,
         Err(_) => panic!(rt; "refused"),
     }
@@ -347,7 +361,7 @@ fn whole_script(rt: &impl Abort, alloc: Global) -> Script<'static> {
 
 #[test]
 fn drawings_of_a_script(rt: HostRuntime) {
-    let script = whole_script(&rt, rt.alloc());
+    let script = taken(&rt, rt.alloc(), SCRIPT);
     let wanted = drawings();
     for i in 0..wanted.len() {
         let (target, call, source, mask, brush) = wanted[i];
@@ -359,6 +373,55 @@ fn drawings_of_a_script(rt: HostRuntime) {
                 assert_eq!(rt; drawing.mask, mask, "drawing {i}");
                 assert_eq!(rt; drawing.brush, brush, "drawing {i}");
                 assert_eq!(rt; drawing.back, WHITE, "drawing {i}");
+            }
+            _ => panic!(rt; "drawing {i}"),
+        }
+    }
+}
+
+/// A script whose drawings have other clips.
+const CLIPPED: &str = "bitmap mono 4 2 1
+region two rects 4 0 6 2 0 0 2 2
+region empty rects
+paint mono 0 0 1 1 #000000 13
+clip two
+paint mono 0 0 1 1 #000000 13
+copy screen 0 0 1 1 mono 0 0
+blt screen 0 0 1 1 - 0 0 - 0 0 - 5555
+pixels mono 0 0 1
+clip empty
+paint screen 0 0 1 1 #000000 13
+clip two
+clip none
+pixels mono 0 0 1";
+
+/// The rectangles of a drawing's clip, if it has one.
+fn clip(drawing: &DeskCommand) -> Option<&[Rect]> {
+    match &drawing.clip {
+        Some(named) => Some(named.region().rects()),
+        None => None,
+    }
+}
+
+#[test]
+fn clips_of_drawings(rt: HostRuntime) {
+    let script = taken(&rt, rt.alloc(), CLIPPED);
+    let rects = [rect(0, 0, 2, 2), rect(4, 0, 6, 2)];
+    let two = Some(rects.as_slice());
+    let empty: Option<&[Rect]> = Some(&[]);
+    let wanted = [
+        (3, None),
+        (5, two),
+        (6, two),
+        (7, two),
+        (8, two),
+        (10, empty),
+        (13, None),
+    ];
+    for (i, rects) in wanted {
+        match script.commands().get(i) {
+            Some(ScriptCommand::Draw(drawing)) => {
+                assert_eq!(rt; clip(drawing), rects, "drawing {i}");
             }
             _ => panic!(rt; "drawing {i}"),
         }
@@ -380,7 +443,7 @@ fn created<'s>(script: &'s Script<'_>, i: usize) -> Option<(u32, Size, Format, &
 
 #[test]
 fn bitmaps_of_a_script(rt: HostRuntime) {
-    let script = whole_script(&rt, rt.alloc());
+    let script = taken(&rt, rt.alloc(), SCRIPT);
     let colours = [DARK, WHITE];
     let mono = (0, Size { w: 4, h: 2 }, Format::B1, colours.as_slice());
     assert_eq!(rt; created(&script, 3), Some(mono));
@@ -404,7 +467,7 @@ fn brush(script: &Script<'_>, i: usize) -> Option<BrushOrder> {
 
 #[test]
 fn brushes_and_texts_of_a_script(rt: HostRuntime) {
-    let script = whole_script(&rt, rt.alloc());
+    let script = taken(&rt, rt.alloc(), SCRIPT);
     let dots = BrushOrder {
         number: 0,
         face: FaceOrder::Pattern { bitmap: 0 },

@@ -14,6 +14,7 @@ pub enum Verb {
     Blt,
     Brush,
     Brushorg,
+    Clip,
     Copy,
     Delete,
     Dump,
@@ -25,12 +26,13 @@ pub enum Verb {
 }
 
 /// All commands.
-const VERBS: [Verb; 13] = [
+const VERBS: [Verb; 14] = [
     Verb::Back,
     Verb::Bitmap,
     Verb::Blt,
     Verb::Brush,
     Verb::Brushorg,
+    Verb::Clip,
     Verb::Copy,
     Verb::Delete,
     Verb::Dump,
@@ -51,6 +53,7 @@ fn spelling(verb: Verb) -> &'static [u8]
         Verb::Blt => b"blt",
         Verb::Brush => b"brush",
         Verb::Brushorg => b"brushorg",
+        Verb::Clip => b"clip",
         Verb::Copy => b"copy",
         Verb::Delete => b"delete",
         Verb::Dump => b"dump",
@@ -119,6 +122,7 @@ pub fn fits_count(verb: Verb, words: &[&[u8]]) -> bool
         Verb::Blt => count == 14,
         Verb::Brush => fits_form(word(words, 2), count),
         Verb::Brushorg => count == 3,
+        Verb::Clip => count == 2,
         Verb::Copy => count == 9,
         Verb::Delete => count == 2,
         Verb::Dump => count == 2,
