@@ -3,4 +3,4 @@ use Rattle.script_words.proofs.FindLemmas.{lines_fit}
 use Rattle.script_read.proofs.tests.taken.Goals as goal
 
 pub read_script-requires : goal.read_script-requires
-read_script-requires c = omega (arith, lines_fit (c.args.text))
+read_script-requires g c = omega (arith, lines_fit c.as_bytes.result.now)
