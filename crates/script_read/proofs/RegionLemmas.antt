@@ -1,4 +1,4 @@
-use Rattle.std.proofs.Common.{◌≡◌, ◌∙◌, ap, sym, subst, refl, arith, map, length, List, [], ◌∷◌, Bool, true, false, ◌&&◌, ◌||◌, not, ℕ, drop, nat_le, Some, if◌then◌else◌, Result, Ok, Err, ◌≤◌, ◌<◌, ℤ, ◌↔◌, IsTrue}
+use Rattle.std.proofs.Common.{◌≡◌, ◌∙◌, ap, sym, subst, refl, arith, map, length, List, [], ◌∷◌, Bool, true, false, ◌&&◌, ℕ, drop, nat_le, Some, if◌then◌else◌, Result, Ok, Err, ◌≤◌, ℤ, ◌↔◌, IsTrue}
 use Rattle.std.specs.List.{All, list_all}
 use Rattle.std.proofs.lemmas.Bool.{false≢true}
 use Rattle.std.proofs.lemmas.Bool.Decides.{nat_tests}
@@ -15,7 +15,6 @@ use Rattle.region.specs.Operation.{holds_after}
 use Rattle.region.specs.Window.{IsEdge, HasEdges, Within}
 use Rattle.script_words.specs.declared.fault.Fault.{Fault}
 use Rattle.script_words.specs.declared.fault.Fault.TheVariants.{Range, PastLimit, RegionTooLarge}
-use Rattle.script_words.specs.Asking.{◌>>=◌, ask}
 use Rattle.script_words.specs.Lines.{word_at}
 use Rattle.script_words.specs.Places.{IsCoordinate, AreCoordinates, is_well_ordered}
 use Rattle.region.specs.declared.operation.Operation.{Operation}

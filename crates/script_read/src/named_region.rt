@@ -39,7 +39,7 @@ impl NamedRegion {
         Ok(NamedRegion { region })
     }
 
-    /// Another owner of the same region. No memory is taken; the number of owners has an end.
+    /// Another owner of the same region. No memory is taken: it fails only where the count of owners is at its end.
     pub fn shared(&self) -> Result<NamedRegion, AllocError>
         ensures { IfOk result (λ r. r ≡ self.now) }
     {
