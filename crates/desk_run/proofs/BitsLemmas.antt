@@ -1,55 +1,35 @@
-use Rattle.std.proofs.Common.{◌≡◌, ℕ, ◌*◌, ◌+◌, ◌/◌, ◌%◌, ◌++◌, ◌∷◌, [], ◌<◌, false, List, get_or, take, length, Option, Some, None, Bor, refl, sym, ap, ◌∙◌}
+use Rattle.std.proofs.Common.{◌≡◌, ℕ, ◌*◌, ◌+◌, ◌/◌, ◌%◌, ◌++◌, ◌∷◌, [], ◌<◌, Bool, List, get_or, take, length, Option, Some, None, Bor, refl, sym, ap, ◌∙◌}
 use Rattle.std.specs.Option.{option_copied}
+use Rattle.std.specs.Prelude.{unwrap_or}
 use Rattle.std.specs.Vec.{with_items}
 use Rattle.std.proofs.lemmas.List.{take_more, with_items_is}
-use Rattle.geom_base.specs.declared.rect.Rect.{Rect}
+use Rattle.geom_base.specs.declared.point.Point.{Point}
 use Rattle.geom_base.specs.declared.size.Size.{Size}
 use Rattle.geom_base.specs.declared.target.Target.{Target}
-use Rattle.geom_base.specs.Points.{is_in}
 use Rattle.pix_format.specs.declared.rgb.Rgb.{Rgb}
 use Rattle.surf_obj.specs.Changes.{Change, changed}
 use Rattle.surf_obj.specs.Layout.{Layout, values_in}
-use Rattle.surf_obj.specs.Object.{object_bytes, object_format, object_size, object_values, OnlyItsPixels}
-use Rattle.surf_obj.specs.Surface.{Surface, point_at, redrawn}
+use Rattle.surf_obj.specs.Object.{object_bytes}
+use Rattle.surf_obj.specs.Surface.{Surface, redrawn}
 use Rattle.surf_obj.specs.declared.object.SurfObj.{SurfObj}
 use Rattle.surf_obj.specs.declared.view.LentView.{LentView}
-use Rattle.surf_obj.proofs.LayoutLemmas.{length-values_in}
-use Rattle.surf_obj.proofs.StepLemmas.{redrawn_none, redrawn_same}
 use Rattle.blt_kernel.specs.Given.{IsMask}
-use Rattle.desk_run.specs.declared.part.Part.{Part}
+use Rattle.desk_run.specs.declared.inputs.Inputs.{Inputs}
 use Rattle.desk_run.specs.declared.source.Source.{Source}
 use Rattle.desk_run.specs.declared.source.Source.TheVariants.{Nothing, Own, Other}
 use Rattle.pix_format.specs.declared.format.Format.{Format}
 use Rattle.pix_format.specs.Xlate.{Translation}
-use Rattle.brush_obj.specs.Slots.{Brush}
-use Rattle.desk_run.specs.Drawing.{DrawsWith, IsSourceOf, IsViewOf, held_for, lent_from, operands_with, source_from}
-use Rattle.desk_run.specs.Parts.{box_from}
+use Rattle.desk_run.specs.Drawing.{CopiesFrom, DrawsWith, IsSourceOf, IsViewOf, LeadsFrom, held_for, lent_from, operands_with, source_from}
 use Rattle.std.proofs.lemmas.Nat.{div-add-mod'}
 
 -- the surface that bytes hold
 abbrev pub surface_on : Layout → List Rgb → List ℕ → Surface
 surface_on l table bytes = record { size = l.size; format = l.format; table = table; values = values_in l bytes }
 
--- a part of a rectangle has the rectangle's points on a surface
-abbrev pub IsPartOf : Part → Rect → Size → Type 0
-IsPartOf part r size = (x y : ℕ) → x < size.w → y < size.h → is_in (point_at x y) (box_from part) ≡ is_in (point_at x y) r
-
-module _ (l : Layout) (table : List Rgb) (bytes : List ℕ) (part : Part) (r : Rect) (new : Change) where
-  pub long : length (values_in l bytes) ≡ l.size.w * l.size.h
-  long = length-values_in l bytes
-
-  -- a part without points
-  pub drawn_nowhere : IsPartOf part r l.size → ((x y : ℕ) → is_in (point_at x y) (box_from part) ≡ false) → surface_on l table bytes ≡ changed new (λ p. is_in p r) (surface_on l table bytes)
-  drawn_nowhere points none =
-      ap (λ (vs : List ℕ). record { size = l.size; format = l.format; table = table; values = vs })
-      (sym (redrawn_none l.size (values_in l bytes) (λ p. is_in p r) new long (λ x y hx hy. sym (points x y hx hy) ∙ none x y)))
-
-  -- a part that was drawn
-  pub drawn_part : (f : Layout) (bits after : List ℕ) (box : Rect) → f ≡ l → bits ≡ bytes → box ≡ box_from part → IsPartOf part r l.size → values_in f after ≡ redrawn f.size (values_in f bits) (λ p. is_in p box) new →
-      surface_on l table after ≡ changed new (λ p. is_in p r) (surface_on l table bytes)
-  drawn_part f bits after box same held is points drawn =
-      ap (λ (vs : List ℕ). record { size = l.size; format = l.format; table = table; values = vs })
-      ((rw (same, held, is) at drawn) ∙ redrawn_same l.size (values_in l bytes) (λ p. is_in p (box_from part)) (λ p. is_in p r) new long (λ x y hx hy. sym (points x y hx hy)))
+-- what was drawn on bits is drawn on the surface that they hold
+pub drawn_on_bits : (l : Layout) (table : List Rgb) (bytes : List ℕ) (area : Point → Bool) (new : Change) (f : Layout) (bits after : List ℕ) → f ≡ l → bits ≡ bytes → values_in f after ≡ redrawn f.size (values_in f bits) area new →
+    surface_on l table after ≡ changed new area (surface_on l table bytes)
+drawn_on_bits l table bytes area new f bits after same held drawn = ap (λ (vs : List ℕ). record { size = l.size; format = l.format; table = table; values = vs }) (rw (same, held) at drawn)
 
 -- what was lent is the source of the drawing
 pub source_lent : (s : Source) (t : Surface) (view : Option LentView) (lent : Option (Bor LentView)) → IsViewOf (lent_from s) view → option_copied lent ≡ view → IsSourceOf lent (held_for s) t.size t.values (source_from t s)
@@ -72,28 +52,42 @@ mask_lent (Some s) None lent shows e = absurd shows
 mask_lent (Some s) (Some w) None shows e = absurd (cc)
 mask_lent (Some s) (Some w) (Some v) shows e = let same : v.now ≡ w = cc in rw same (sym shows.0, sym shows.2)
 
+-- a translation from the source leads from what was lent
+pub leads_from : (s : Source) (t : Surface) (format : Format) (held : Option Target) (view : Option LentView) (lent : Option (Bor LentView)) (xlate : Translation) → format ≡ t.format → held ≡ held_for s → IsViewOf (lent_from s) view → option_copied lent ≡ view →
+    xlate.from ≡ (unwrap_or (source_from t s) t).format → LeadsFrom lent held format xlate
+leads_from Nothing t format held None None xlate formats holds shows e from = rw holds tt
+leads_from Nothing t format held None (Some v) xlate formats holds shows e from = absurd (cc)
+leads_from Nothing t format held (Some w) lent xlate formats holds shows e from = absurd shows
+leads_from Own t format held None None xlate formats holds shows e from = rw holds (from ∙ sym formats)
+leads_from Own t format held None (Some v) xlate formats holds shows e from = absurd (cc)
+leads_from Own t format held (Some w) lent xlate formats holds shows e from = absurd shows
+leads_from (Other s) t format held None lent xlate formats holds shows e from = absurd shows
+leads_from (Other s) t format held (Some w) None xlate formats holds shows e from = absurd (cc)
+leads_from (Other s) t format held (Some w) (Some v) xlate formats holds shows e from = let same : v.now ≡ w = cc in rw same (from ∙ sym shows.1)
+
 -- the bytes of a surface after a loan
 pub bytes_after : (s : SurfObj) (lent new : List ℕ) → length new ≡ length lent → lent ≡ object_bytes s → (with_items s.bits new).items ≡ new
 bytes_after s lent new kept is = with_items_is s.bits new (kept ∙ ap length is ∙ sym s.bits.ok.0)
 
--- what a drawing on bits is handed is what the surface is drawn on with
-pub draws_with : (s : Source) (mask : Option (Bor Surface)) (xlate : Translation) (brush : Bor Brush) (t : Surface) (size : Size) (format : Format) (values : List ℕ) (held : Option Target) (source_view mask_view : Option LentView) (source_lent_ mask_lent_ : Option (Bor LentView)) →
-    size ≡ t.size → format ≡ t.format → values ≡ t.values → held ≡ held_for s →
-    IsViewOf (lent_from s) source_view → option_copied source_lent_ ≡ source_view → IsViewOf (option_copied mask) mask_view → option_copied mask_lent_ ≡ mask_view →
-    DrawsWith size format values source_lent_ held mask_lent_ xlate t.table brush.now.face (operands_with t s mask xlate brush)
-draws_with s mask xlate brush t size format values held source_view mask_view source_lent_ mask_lent_ sizes formats same holds shows lent bits bits_lent = record {
-  source = rw (sizes, same, holds) (source_lent s t source_view source_lent_ shows lent);
-  bits = mask_lent (option_copied mask) mask_view mask_lent_ bits bits_lent;
+-- what a copy on bits is handed is what the surface is drawn on with
+pub copies_with : (i : Inputs) (xlate : Translation) (t : Surface) (size : Size) (format : Format) (values : List ℕ) (held : Option Target) (view : Option LentView) (lent : Option (Bor LentView)) →
+    size ≡ t.size → format ≡ t.format → values ≡ t.values → held ≡ held_for i.source → IsViewOf (lent_from i.source) view → option_copied lent ≡ view →
+    CopiesFrom size format values lent held xlate (operands_with t i xlate)
+copies_with i xlate t size format values held view lent sizes formats same holds shows is = record {
+  source = rw (sizes, same, holds) (source_lent i.source t view lent shows is);
   translation = refl;
-  paints = record { face = refl; kept = sym formats; colours = refl };
+  kept = sym formats;
 }
 
--- a surface that was drawn on looks as before but for its values
-pub same_form : (old new : SurfObj) (table : List Rgb) → OnlyItsPixels old new →
-    ◌≡◌ {A = Surface} (record { size = object_size new; format = object_format new; table = table; values = object_values new }) (record { size = object_size old; format = object_format old; table = table; values = object_values new })
-same_form old new table only =
-    let form : Layout → Surface = λ l. record { size = l.size; format = l.format; table = table; values = object_values new } in
-    ap form only.layout
+-- and what a raster operation is handed
+pub draws_with : (i : Inputs) (xlate : Translation) (t : Surface) (size : Size) (format : Format) (values : List ℕ) (held : Option Target) (view mask_view : Option LentView) (lent mask : Option (Bor LentView)) →
+    size ≡ t.size → format ≡ t.format → values ≡ t.values → held ≡ held_for i.source → IsViewOf (lent_from i.source) view → option_copied lent ≡ view → IsViewOf (option_copied i.mask) mask_view → option_copied mask ≡ mask_view →
+    DrawsWith size format values lent held mask xlate t.table i.brush.now.face (operands_with t i xlate)
+draws_with i xlate t size format values held view mask_view lent mask sizes formats same holds shows is bits bits_are = record {
+  copies = copies_with i xlate t size format values held view lent sizes formats same holds shows is;
+  bits = mask_lent (option_copied i.mask) mask_view mask bits bits_are;
+  paints = record { face = refl; kept = sym formats; colours = refl };
+}
 
 -- the value at a place in rows of a width
 pub next_value : (w : ℕ) (values taken : List ℕ) (i v : ℕ) → i < length values → taken ≡ take i values → v ≡ get_or values (i / w * w + i % w) 0 → taken ++ v ∷ [] ≡ take (i + 1) values

@@ -1,4 +1,5 @@
-use Rattle.std.proofs.Common.{◌≡◌, ℕ, List, [], get_or, set, Option, Some, None, Result, Ok, Err, refl, sym, ap, ◌∙◌}
+use Rattle.std.proofs.Common.{◌≡◌, ℕ, ◌&&◌, List, [], get_or, set, Option, Some, None, Result, Ok, Err, refl, sym, ap, ◌∙◌}
+use Rattle.geom_base.specs.declared.rect.Rect.{Rect}
 use Rattle.std.specs.Prelude.{OnOk, OnErr, option_map, unwrap_or, slice_index_or}
 use Rattle.std.specs.Option.{option_copied}
 use Rattle.std.proofs.lemmas.List.{set-set, set-get_or, get_or-set_other}
@@ -14,14 +15,14 @@ use Rattle.script_read.specs.declared.desk_command.Feed.TheVariants.{Row}
 use Rattle.script_read.specs.declared.desk_command.Spot.TheVariants as spots
 use Rattle.desk_run.specs.declared.others.Others.{Others}
 use Rattle.desk_run.specs.Beside.{IsBeside, faces_of}
-use Rattle.desk_run.specs.Desk.{State, source_of, operands_of, translation, drawn, drawn_on}
+use Rattle.desk_run.specs.Desk.{State, in_clip, source_of, operands_of, translation, drawn, drawn_on}
 use Rattle.desk_run.specs.Rows.{CopiesRow}
 
 -- a row of values that was copied is drawn
-pub row_drawn_on : (s : State) (c : DeskCommand) (t after : Surface) (call : CopyCall) (values : List ℕ) → c.source ≡ Row values → c.call ≡ Copy call →
-    ((o : Operands) → CopiesRow t values o → after ≡ changed (new_of_copy call o) (λ p. is_in p call.rect) t) → after ≡ drawn s c None t
-row_drawn_on s c t after call values row copy put =
-    rw copy (put (operands_of s c t) (record { back = c.back; source = ap (source_of s t) row; xlate = ap (λ f. translation (unwrap_or (source_of s t f) t) t c.back) row; format = refl }))
+pub row_drawn_on : (s : State) (c : DeskCommand) (t after : Surface) (call : CopyCall) (values : List ℕ) (clip : Option (List Rect)) → clip ≡ c.clip → c.source ≡ Row values → c.call ≡ Copy call →
+    ((o : Operands) → CopiesRow t values o → after ≡ changed (new_of_copy call o) (λ p. in_clip clip p && is_in p call.rect) t) → after ≡ drawn s c None t
+row_drawn_on s c t after call values clip under row copy put =
+    rw (copy, ← under) (put (operands_of s c t) (record { back = c.back; source = ap (source_of s t) row; xlate = ap (λ f. translation (unwrap_or (source_of s t f) t) t c.back) row; format = refl }))
 
 pub on_ok_map : {T E P Q : Type 0} (r : Result T E) → OnOk r P → (P → Q) → OnOk r Q
 on_ok_map (Ok x) p f = f p

@@ -6,6 +6,7 @@ pub mod DeskLemmas
 pub mod DrawLemmas
 pub mod DumpLemmas
 pub mod FillLemmas
+pub mod FrameLemmas
 pub mod HexLemmas
 pub mod HistoryLemmas
 pub mod InputLaws

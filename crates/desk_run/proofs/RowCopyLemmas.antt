@@ -1,131 +1,154 @@
-use Rattle.std.proofs.Common.{◌≡◌, ℕ, suc, ℤ, pos, ◌+◌, ◌-◌, ◌*◌, ◌<◌, ◌≤◌, ◌+ℤ◌, ◌-ℤ◌, ◌≤ℤ◌, true, false, List, length, take, drop, get_or, Option, Some, refl, sym, ap, ◌∙◌, arith, negsuc, length-take, length-drop}
+-- A row of values that is copied through a surface of one row.
+use Rattle.std.proofs.Common.{◌≡◌, ℕ, ℤ, pos, ◌+◌, ◌-◌, ◌*◌, ◌^◌, ◌<◌, ◌≤◌, ◌+ℤ◌, ◌-ℤ◌, ◌≤ℤ◌, ◌<ℤ◌, Bool, true, false, cond, ◌&&◌, IsTrue, List, length, take, drop, get_or, Option, Some, refl, sym, ap, subst, ◌∙◌, arith, negsuc, length-take, length-drop, unsigned_abs}
 use Rattle.std.specs.Prelude.{option_map}
+use Rattle.std.proofs.lemmas.Bool.{false≢true}
 use Rattle.std.proofs.lemmas.Bool.Decides.{nat_tests}
 use Rattle.std.proofs.lemmas.Int.{ints}
+use Rattle.std.proofs.lemmas.List.{get_or-take, get_or-drop}
 use Rattle.geom_base.specs.declared.point.Point.{Point}
 use Rattle.geom_base.specs.declared.rect.Rect.{Rect}
 use Rattle.geom_base.specs.declared.size.Size.{Size}
-use Rattle.geom_base.specs.Points.{is_in, box_of}
-use Rattle.surf_obj.specs.Surface.{Surface, point_at, redrawn, whole}
+use Rattle.geom_base.specs.Points.{IsIn, is_in, LiesIn}
+use Rattle.geom_base.proofs.PointLemmas.{is_in-IsIn}
+use Rattle.pix_format.specs.declared.format.Format.{Format}
 use Rattle.pix_format.specs.declared.rgb.Rgb.{Rgb}
 use Rattle.pix_format.specs.Translate.{same_kind}
 use Rattle.pix_format.specs.Value.{bits_of}
 use Rattle.pix_format.specs.Xlate.{Translation, translated}
-use Rattle.pix_format.specs.declared.format.Format.{Format}
 use Rattle.pix_format.proofs.XlateLemmas.{Decides-same_kind}
 use Rattle.rop_mix.specs.Rop.{rop4_of}
-use Rattle.std.proofs.lemmas.List.{get_or-take, get_or-drop}
+use Rattle.rop_mix.proofs.BitLemmas.{rop3_of-lt}
+use Rattle.surf_obj.specs.Changes.{Change, changed}
+use Rattle.surf_obj.specs.declared.object.SurfObj.{SurfObj}
+use Rattle.surf_obj.specs.Object.{IsBlank, object_bytes, object_format, object_layout, object_size, object_values, OnlyItsPixels}
+use Rattle.surf_obj.proofs.LayoutLemmas.{length-values_in}
+use Rattle.surf_obj.specs.Surface.{Surface, point_at, value_after, value_at, whole}
+use Rattle.surf_obj.proofs.StepLemmas.{redrawn_grid}
 use Rattle.brush_obj.specs.Calls.{source_alone, Operands, new_of_copy, point_across, source_value, value_in, value_there}
 use Rattle.brush_obj.specs.declared.copy_call.CopyCall.{CopyCall}
-use Rattle.brush_obj.proofs.CallLemmas.{copy-low}
+use Rattle.brush_obj.proofs.CallLemmas.{copy-low, copy-source}
 use Rattle.script_read.specs.Drawing.{row_end, row_rect, zero_point}
-use Rattle.surf_obj.specs.Changes.{Change, changed}
-use Rattle.surf_obj.specs.Layout.{Layout, values_in}
-use Rattle.surf_obj.proofs.LayoutLemmas.{length-values_in}
-use Rattle.surf_obj.proofs.StepLemmas.{redrawn_same}
 use Rattle.desk_run.specs.Desk.{row_like, translation}
-use Rattle.desk_run.specs.Rows.{CopiesRow, GivesLow}
-use Rattle.desk_run.specs.declared.part.Part.{Part}
-use Rattle.desk_run.specs.Parts.{box_from, HasPoint, LiesWithin}
-use Rattle.desk_run.proofs.BitsLemmas.{IsPartOf, surface_on}
-
-corner_in : (l t r b x y : ℕ) → l ≤ x → x < r → t ≤ y → y < b → is_in (point_at x y) (box_from (record { left = l; top = t; right = r; bottom = b })) ≡ true
-corner_in l t r b x y a b' c d = grind (arith, nat_tests)
-
-orders : (r : Rect) (x y : ℕ) → is_in (point_at x y) r ≡ true → (r.left ≤ℤ pos x) × (pos (suc x) ≤ℤ r.right) × (r.top ≤ℤ pos y) × (pos (suc y) ≤ℤ r.bottom)
-orders r x y e = (grind (arith, ints), grind (arith, ints), grind (arith, ints), grind (arith, ints))
-
-pub part_within : (part : Part) (r : Rect) (size : Size) → part.right ≤ size.w → part.bottom ≤ size.h → HasPoint part → IsPartOf part r size → LiesWithin part r
-part_within part r size w h some points =
-    let l = part.left in
-    let t = part.top in
-    let x = part.right - 1 in
-    let y = part.bottom - 1 in
-    let first = orders r l t (sym (points l t (let a = some.0 in omega arith) (let b = some.1 in omega arith)) ∙ corner_in l t part.right part.bottom l t (omega arith) some.0 (omega arith) some.1) in
-    let last = orders r x y (sym (points x y (let a = some.0 in omega arith) (let b = some.1 in omega arith)) ∙ corner_in l t part.right part.bottom x y (let a = some.0 in omega arith) (let a = some.0 in omega arith) (let b = some.1 in omega arith) (let b = some.1 in omega arith)) in
-    let ex : suc x ≡ part.right = let a = some.0 in omega arith in
-    let ey : suc y ≡ part.bottom = let b = some.1 in omega arith in
-    record { left = first.0; top = first.2; right = rw ex at last.1; bottom = rw ey at last.3 }
-
--- a column behind another one, from a row's first column on
-shifted : (l k f : ℕ) (r : ℤ) → (r +ℤ pos f) ≡ pos l → ((pos (l + k) -ℤ r) +ℤ pos 0) ≡ pos (f + k)
-shifted l k f (pos m) e = grind (arith, ints)
-shifted l k f (negsuc m) e = grind (arith, ints)
+use Rattle.desk_run.specs.Frames.{LiesWithin}
+use Rattle.desk_run.specs.Rows.{CopiesRow, ShowsRow, low_bits}
 
 -- a row ends at most so many columns behind its first
 row_ends : (x : ℤ) (n : ℕ) → row_end x n ≤ℤ (x +ℤ pos n)
 row_ends x n = grind (arith, ints)
 
-fits_by : (x e : ℤ) (from left right n : ℕ) → left < right → pos right ≤ℤ e → e ≤ℤ (x +ℤ pos n) → (x +ℤ pos from) ≡ pos left → from + (right - left) ≤ n
-fits_by x e from left right n some a b first = grind (arith, ints)
+whole_point : (size : Size) (x y : ℕ) → x < size.w → y < size.h → is_in (point_at x y) (whole size) ≡ true
+whole_point size x y hx hy = grind (arith, nat_tests, ints)
 
-next_line : (t b : ℕ) → t < b → pos b ≤ℤ (pos t +ℤ pos 1) → t + 1 ≡ b
-next_line t b a c = grind (arith, ints)
+pub low_fits : (t : Surface) (v : ℕ) → low_bits t.format v < 2 ^ bits_of t.format
+low_fits t v = rop3_of-lt 204 0 v 0 (bits_of t.format)
 
-level : (t : ℕ) → ((pos t -ℤ pos t) +ℤ pos 0) ≡ pos 0
-level t = grind (arith, ints)
+-- a surface of one row into which values were put
+pub row_shows : (t : Surface) (values : List ℕ) (blank shown : SurfObj) (table : List Rgb) (format : Format) → format ≡ t.format → table ≡ t.table → IsBlank (record { w = length values; h = 1 }) format blank → OnlyItsPixels blank shown →
+    ((k : ℕ) → k < length values → get_or (object_values shown) k 0 ≡ low_bits (object_format blank) (get_or values k 0)) →
+    ShowsRow t values (record { size = object_size shown; format = object_format shown; table = table; values = object_values shown })
+row_shows t values blank shown table format formats tables new only each =
+    let layout = only.layout ∙ new.layout in
+    let size : object_size shown ≡ record { w = length values; h = 1 } = ap (λ l. l.size) layout in
+    let kept : object_format shown ≡ t.format = ap (λ l. l.format) layout ∙ formats in
+    let one : length values * 1 ≡ length values = omega arith in
+    let long : length (object_values shown) ≡ length values = length-values_in (object_layout shown) (object_bytes shown) ∙ (ap (λ (s : Size). s.w * s.h) size ∙ one) in
+    let sized : object_size shown ≡ record { w = length (object_values shown); h = 1 } = size ∙ ap (λ (n : ℕ). record { w = n; h = 1 }) (sym long) in
+    record {
+      looks = λ i. record { size = sized i; format = kept i; table = tables i; values = object_values shown };
+      long = long;
+      kept = λ k lt. each k lt ∙ ap (λ f. low_bits f (get_or values k 0)) (ap (λ l. l.format) new.layout ∙ formats);
+    }
 
--- a row of values is copied to a part of it
-module _ (call : CopyCall) (t : Surface) (values : List ℕ) (part : Part) (from : ℕ) (row : call.rect ≡ row_rect (record { x = call.rect.left; y = call.rect.top }) (length values)) (start : call.src ≡ zero_point) (within : LiesWithin part call.rect) (some : HasPoint part) (first : (call.rect.left +ℤ pos from) ≡ pos part.left) where
-  -- the part has the row's only line
-  line : call.rect.top ≡ pos part.top
-  line =
-      let below : call.rect.bottom ≡ (call.rect.top +ℤ pos 1) = ap (λ q. q.bottom) row in
-      let low = rw below at within.bottom in
-      let high = within.top in
-      let a = some.1 in
-      grind (arith, ints)
+-- a surface that is drawn on, a copy of values to a rectangle, and its frame on the surface
+module _ (t : Surface) (call : CopyCall) (values : List ℕ) (frame : Rect) (from len : ℕ)
+    (copied : call.rect ≡ row_rect (record { x = call.rect.left; y = call.rect.top }) (length values)) (start : call.src ≡ zero_point)
+    (within : LiesWithin frame call.rect) (first : pos from ≡ frame.left -ℤ call.rect.left) (wide : pos len ≡ frame.right -ℤ frame.left) where
+  abbrev cut : List ℕ
+  cut = take (from + len - from) (drop from values)
 
-  across : (k : ℕ) → point_across call.rect call.src (point_at (part.left + k) part.top) ≡ point_at (from + k) 0
-  across k =
-      let x : ((pos (part.left + k) -ℤ call.rect.left) +ℤ pos 0) ≡ pos (from + k) = shifted part.left k from call.rect.left first in
-      let y : ((pos part.top -ℤ call.rect.top) +ℤ pos 0) ≡ pos 0 = rw line (level part.top) in
-      rw start (λ i. record { x = x i; y = y i })
-
-  there : (n : ℕ) → n < length values → value_there (row_like t values) (point_at n 0) ≡ Some (get_or values n 0)
-  there n lt =
-      let test : is_in (point_at n 0) (whole (record { w = length values; h = 1 })) ≡ true = grind (arith, nat_tests, ints) in
-      let place : 0 * length values + n ≡ n = omega arith in
-      rw test (ap (λ (m : ℕ). Some (get_or values m 0)) place)
-
-  same : (back : Rgb) (v : ℕ) → translated (translation (row_like t values) t back) v ≡ v
-  same back v = let alike : same_kind t.format t.table t.format t.table ≡ true = (Decides-same_kind t.format t.table t.format t.table).1 (refl, refl) in rw alike refl
-
-  pub gives_low : (o : Operands) → CopiesRow t values o → GivesLow (new_of_copy call o) (take (from + (part.right - part.left) - from) (drop from values)) part.left part.top (bits_of t.format)
-  gives_low o given k d lt =
-      let cut : from + (part.right - part.left) - from ≡ part.right - part.left = omega arith in
-      let kept : k < part.right - part.left = omega (arith, cut, length-take (from + (part.right - part.left) - from) (drop from values), lt) in
-      let inside : from + k < length values = omega (arith, length-take (from + (part.right - part.left) - from) (drop from values), length-drop from values, lt) in
-      let p = point_at (part.left + k) part.top in
-      let row = row_like t values in
-      let v = get_or values (from + k) 0 in
-      let at : source_value o call.rect call.src p ≡ Some v =
-      ap (λ (s : Option Surface). option_map (translated o.xlate) (value_in s (point_across call.rect call.src p))) given.source
-      ∙ ap (λ (x : Translation). option_map (translated x) (value_there row (point_across call.rect call.src p))) given.xlate
-      ∙ ap (λ (q : Point). option_map (translated (translation row t given.back)) (value_there row q)) (across k)
-      ∙ ap (option_map (translated (translation row t given.back))) (there (from + k) inside)
-      ∙ ap (λ (v : ℕ). Some v) (same given.back v) in
-      copy-low call o p d v at
-      ∙ ap (λ (f : Format). Some (rop4_of source_alone false 0 v 0 (bits_of f))) given.format
-      ∙ ap (λ (v : ℕ). Some (rop4_of source_alone false 0 v 0 (bits_of t.format))) (sym (get_or-take _ (drop from values) k 0 (rw cut kept) ∙ get_or-drop from values k 0))
-
-  -- the part's values are there
-  pub fits : from + (part.right - part.left) ≤ length values
+  pub fits : from + len ≤ length values
   fits =
-      let edge : call.rect.right ≡ row_end call.rect.left (length values) = ap (λ q. q.right) row in
-      fits_by call.rect.left (row_end call.rect.left (length values)) from part.left part.right (length values) some.0 (rw edge at within.right) (row_ends call.rect.left (length values)) first
+      let edge : call.rect.right ≡ row_end call.rect.left (length values) = ap (λ q. q.right) copied in
+      let end = row_ends call.rect.left (length values) in
+      omega (arith, ints, edge, end, within.right, first, wide)
 
-  -- the box of the values that were put is the part
-  same_box : (n : ℕ) → n ≡ length (take (from + (part.right - part.left) - from) (drop from values)) → box_of part.left part.top (part.left + n) (part.top + 1) ≡ box_from part
-  same_box n is =
-      let wide : part.left + n ≡ part.right = omega (arith, is, fits, some.0, length-take (from + (part.right - part.left) - from) (drop from values), length-drop from values) in
-      let below : call.rect.bottom ≡ (call.rect.top +ℤ pos 1) = ap (λ q. q.bottom) row in
-      let high : part.top + 1 ≡ part.bottom = next_line part.top part.bottom some.1 (rw (below, line) at within.bottom) in
-      rw (wide, high) refl
+  pub cut_long : length cut ≡ len
+  cut_long = omega (arith, length-take (from + len - from) (drop from values), length-drop from values, fits)
 
-  pub row_drawn : (l : Layout) (table : List Rgb) (bytes after : List ℕ) (change : Change) (n : ℕ) → n ≡ length (take (from + (part.right - part.left) - from) (drop from values)) → IsPartOf part call.rect l.size →
-      after ≡ redrawn l.size (values_in l bytes) (λ p. is_in p (box_of part.left part.top (part.left + n) (part.top + 1))) change →
-      ◌≡◌ {A = Surface} (record { size = l.size; format = l.format; table = table; values = after }) (changed change (λ p. is_in p call.rect) (surface_on l table bytes))
-  row_drawn l table bytes after change n is points put =
-      ap (λ (vs : List ℕ). record { size = l.size; format = l.format; table = table; values = vs })
-      (put ∙ ap (λ (b : Rect). redrawn l.size (values_in l bytes) (λ p. is_in p b) change) (same_box n is) ∙ redrawn_same l.size (values_in l bytes) (λ p. is_in p (box_from part)) (λ p. is_in p call.rect) change (length-values_in l bytes) (λ x y hx hy. sym (points x y hx hy)))
+  -- one line
+  lined : (y : ℕ) → frame.top ≤ℤ pos y → pos y <ℤ frame.bottom → (frame.top ≡ pos y) × (call.rect.top ≡ pos y)
+  lined y a b =
+      let below : call.rect.bottom ≡ (call.rect.top +ℤ pos 1) = ap (λ q. q.bottom) copied in
+      (omega (arith, ints, below, a, b, within.top, within.bottom), omega (arith, ints, below, a, b, within.top, within.bottom))
+
+  there : (vs : List ℕ) (n : ℕ) → n < length vs → value_there (row_like t vs) (point_at n 0) ≡ Some (get_or vs n 0)
+  there vs n lt =
+      let test : is_in (point_at n 0) (whole (record { w = length vs; h = 1 })) ≡ true = grind (arith, nat_tests, ints) in
+      let place : 0 * length vs + n ≡ n = omega arith in
+      rw test (ap (λ (m : ℕ). Some (get_or vs m 0)) place)
+
+  same : (vs : List ℕ) (back : Rgb) (v : ℕ) → translated (translation (row_like t vs) t back) v ≡ v
+  same vs back v = let alike : same_kind t.format t.table t.format t.table ≡ true = (Decides-same_kind t.format t.table t.format t.table).1 (refl, refl) in rw alike refl
+
+  -- what a row gives the point that is so many columns from its first
+  row_gives : (o : Operands) (vs : List ℕ) (back : Rgb) (rect : Rect) (at p : Point) (n : ℕ) → o.source ≡ Some (row_like t vs) → o.xlate ≡ translation (row_like t vs) t back → point_across rect at p ≡ point_at n 0 → n < length vs →
+      source_value o rect at p ≡ Some (get_or vs n 0)
+  row_gives o vs back rect at p n source xlate place lt =
+      ap (λ (s : Option Surface). option_map (translated o.xlate) (value_in s (point_across rect at p))) source
+      ∙ ap (λ (x : Translation). option_map (translated x) (value_there (row_like t vs) (point_across rect at p))) xlate
+      ∙ ap (λ (q : Point). option_map (translated (translation (row_like t vs) t back)) (value_there (row_like t vs) q)) place
+      ∙ ap (option_map (translated (translation (row_like t vs) t back))) (there vs n lt)
+      ∙ ap (λ (v : ℕ). Some v) (same vs back (get_or vs n 0))
+
+  module _ (row : Surface) (shows : ShowsRow t cut row) (part : CopyCall) (rect : part.rect ≡ frame) (corner : part.src ≡ zero_point)
+      (other o : Operands) (back : Rgb) (source : other.source ≡ Some row) (xlate : other.xlate ≡ translation row t back) (format : other.format ≡ t.format) (given : CopiesRow t values o) where
+    -- at a point of the frame both copies give the low bits of one value
+    alike : (x y d : ℕ) → IsIn (point_at x y) frame → value_after (new_of_copy part other) (point_at x y) d ≡ value_after (new_of_copy call o) (point_at x y) d
+    alike x y d h =
+        let p = point_at x y in
+        let k = unsigned_abs (pos x -ℤ frame.left) in
+        let column : pos k ≡ pos x -ℤ frame.left = grind (arith, ints) in
+        let line = lined y h.from_top h.to_bottom in
+        let inside : k < len = omega (arith, ints, column, wide, h.to_right) in
+        let low = low_bits t.format (get_or values (from + k) 0) in
+        let here : get_or row.values k 0 ≡ low =
+            shows.kept k (omega (arith, cut_long, inside)) ∙ ap (low_bits t.format) (get_or-take (from + len - from) (drop from values) k 0 (omega (arith, inside)) ∙ get_or-drop from values k 0) in
+        let across : point_across part.rect part.src p ≡ point_at k 0 =
+            let a : ((pos x -ℤ frame.left) +ℤ pos 0) ≡ pos k = omega (arith, ints, column) in
+            let b : ((pos y -ℤ frame.top) +ℤ pos 0) ≡ pos 0 = omega (arith, ints, line.0) in
+            rw (rect, corner) (λ i. record { x = a i; y = b i }) in
+        let over : point_across call.rect call.src p ≡ point_at (from + k) 0 =
+            let a : ((pos x -ℤ call.rect.left) +ℤ pos 0) ≡ pos (from + k) = omega (arith, ints, column, first) in
+            let b : ((pos y -ℤ call.rect.top) +ℤ pos 0) ≡ pos 0 = omega (arith, ints, line.1) in
+            rw start (λ i. record { x = a i; y = b i }) in
+        let shown : Option Surface = Some (row_like t row.values) in
+        let one : new_of_copy part other p d ≡ Some low =
+            copy-source part other p d low
+            (row_gives other row.values back part.rect part.src p k (source ∙ ap (λ (s : Surface). Some s) shows.looks) (xlate ∙ ap (λ (s : Surface). translation s t back) shows.looks) across (omega (arith, shows.long, cut_long, inside)) ∙ ap (λ (v : ℕ). Some v) here)
+            (rw format (low_fits t (get_or values (from + k) 0))) in
+        let two : new_of_copy call o p d ≡ Some low =
+            copy-low call o p d (get_or values (from + k) 0) (row_gives o values given.back call.rect call.src p (from + k) given.source given.xlate over (omega (arith, fits, inside)))
+            ∙ ap (λ f. Some (rop4_of source_alone false 0 (get_or values (from + k) 0) 0 (bits_of f))) given.format in
+        rw (one, two) refl
+
+    pub row_copied : (clip : Point → Bool) → length t.values ≡ t.size.w * t.size.h → ((p : Point) → is_in p frame ≡ (is_in p call.rect && is_in p (whole t.size))) →
+        changed (new_of_copy part other) (λ p. clip p && is_in p part.rect) t ≡ changed (new_of_copy call o) (λ p. clip p && is_in p call.rect) t
+    row_copied clip long points =
+        ap (λ (vs : List ℕ). record t { values = vs })
+        (redrawn_grid t.size t.values (λ p. clip p && is_in p part.rect) (λ p. clip p && is_in p call.rect) (new_of_copy part other) (new_of_copy call o) long
+        (λ x y hx hy.
+        let p = point_at x y in
+        let d = value_at t.size t.values x y in
+        let area : is_in p part.rect ≡ is_in p call.rect = ap (is_in p) rect ∙ points p ∙ ap (λ (b : Bool). is_in p call.rect && b) (whole_point t.size x y hx hy) ∙ and_true (is_in p call.rect) in
+        by (clip p) (is_in p part.rect) (is_in p call.rect) (value_after (new_of_copy part other) p d) (value_after (new_of_copy call o) p d) d area (λ h. alike x y d ((is_in-IsIn p frame).0 (sym (ap (is_in p) rect) ∙ h)))))
+      where
+        and_true : (b : Bool) → (b && true) ≡ b
+        and_true true = refl
+        and_true false = refl
+
+        by : (a b c : Bool) (u v d : ℕ) → b ≡ c → (IsTrue b → u ≡ v) → cond (a && b) u d ≡ cond (a && c) v d
+        by true true true u v d e h = h refl
+        by true false false u v d e h = refl
+        by true true false u v d e h = absurd (false≢true (sym e))
+        by true false true u v d e h = absurd (false≢true e)
+        by false b c u v d e h = refl

@@ -1,6 +1,9 @@
 -- The state of a desk, and one command on it.
-use Rattle.std.specs.Prelude.{ℕ, ◌*◌, ◌==◌, List, [], ◌∷◌, ◌++◌, length, replicate, slice_index_or, slice_set, Option, Some, None, option_map, unwrap_or, ◌&&◌, if◌then◌else◌}
+use Rattle.std.specs.Prelude.{ℕ, ◌*◌, ◌==◌, Bool, true, List, [], ◌∷◌, ◌++◌, length, replicate, slice_index_or, slice_set, Option, Some, None, option_map, unwrap_or, ◌&&◌, if◌then◌else◌}
+use Rattle.geom_base.specs.declared.point.Point.{Point}
+use Rattle.geom_base.specs.declared.rect.Rect.{Rect}
 use Rattle.geom_base.specs.declared.size.Size.{Size}
+use Rattle.geom_base.specs.Points.{is_in_some}
 use Rattle.pix_format.specs.declared.format.Format.{Format}
 use Rattle.pix_format.specs.declared.format.Format.TheVariants.{B8}
 use Rattle.pix_format.specs.declared.rgb.Rgb.{Rgb}
@@ -90,10 +93,15 @@ operands_of s c t = record {
 abbrev pub new_of : State → DeskCommand → Surface → Change
 new_of s c t = new_of_call c.call (operands_of s c t)
 
--- a surface after a drawing with this report on it: each point that the call reaches has its new value, all at once; with a report only
--- the points that it names
+-- the points that a clip lets through: those of its rectangles, or all where there is no clip
+abbrev pub in_clip : Option (List Rect) → Point → Bool
+in_clip (Some rects) p = is_in_some p rects
+in_clip None p = true
+
+-- a surface after a drawing with this report on it: each point that the call reaches in the clip has its new value, all at once; with a
+-- report only the points that it names
 abbrev pub drawn : State → DeskCommand → Option Told → Surface → Surface
-drawn s c report t = changed (new_of s c t) (λ p. part_of report p && reach_of_call c.call p) t
+drawn s c report t = changed (new_of s c t) (λ p. part_of report p && (in_clip c.clip p && reach_of_call c.call p)) t
 
 -- what the output names of what is drawn on
 abbrev pub name_of : Spot → Named

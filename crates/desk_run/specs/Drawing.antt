@@ -1,13 +1,15 @@
 -- What a surface of the desk is drawn on with.
-use Rattle.std.specs.Prelude.{◌≡◌, ℕ, Bool, true, false, List, Option, Some, None, unwrap_or, IsTrue}
+use Rattle.std.specs.Prelude.{◌≡◌, ℕ, List, Option, Some, None, unwrap_or, IsTrue}
 use Rattle.std.specs.Option.{option_copied}
 use Rattle.std.specs.Borrow.{Bor}
 use Rattle.geom_base.specs.declared.point.Point.{Point}
+use Rattle.geom_base.specs.declared.rect.Rect.{Rect}
 use Rattle.geom_base.specs.declared.size.Size.{Size}
 use Rattle.geom_base.specs.Points.{is_in}
 use Rattle.geom_base.specs.declared.target.Target.{Target}
 use Rattle.geom_base.specs.declared.target.Target.TheVariants.{Screen}
 use Rattle.brush_obj.specs.declared.blt_call.BltCall.{BltCall}
+use Rattle.brush_obj.specs.declared.copy_call.CopyCall.{CopyCall}
 use Rattle.pix_format.specs.declared.format.Format.{Format}
 use Rattle.pix_format.specs.Xlate.{Translation}
 use Rattle.surf_obj.specs.Surface.{Surface, whole}
@@ -21,7 +23,7 @@ use Rattle.brush_obj.specs.declared.face.BrushFace.{BrushFace}
 use Rattle.pix_format.specs.declared.rgb.Rgb.{Rgb}
 use Rattle.desk_run.specs.declared.inputs.Inputs.{Inputs}
 use Rattle.desk_run.specs.declared.source.Source.{Source}
-use Rattle.desk_run.specs.Desk.{translation}
+use Rattle.desk_run.specs.Desk.{in_clip, translation}
 use Rattle.desk_run.specs.declared.source.Source.TheVariants.{Nothing, Own, Other}
 
 -- the source of a drawing on bits of this size that have these values: the view that was lent, or the bits themselves, or none
@@ -30,11 +32,16 @@ IsSourceOf (Some view) held size values s = IsShown (view_size view.now) (view_v
 IsSourceOf None (Some target) size values s = IsShown size values s
 IsSourceOf None None size values s = s ≡ None
 
--- what a raster operation on bits of this size and format draws with
-pub record DrawsWith (size : Size) (format : Format) (values : List ℕ) (src : Option (Bor LentView)) (held : Option Target) (mask : Option (Bor LentView)) (xlate : Translation) (table : List Rgb) (brush : BrushFace) (o : Operands) : Type 0 where
+-- what a copy on bits of this size and format draws with
+pub record CopiesFrom (size : Size) (format : Format) (values : List ℕ) (src : Option (Bor LentView)) (held : Option Target) (xlate : Translation) (o : Operands) : Type 0 where
   pub source : IsSourceOf src held size values o.source
-  pub bits : IsMask mask o.mask
   pub translation : o.xlate ≡ xlate
+  pub kept : o.format ≡ format
+
+-- and what a raster operation does
+pub record DrawsWith (size : Size) (format : Format) (values : List ℕ) (src : Option (Bor LentView)) (held : Option Target) (mask : Option (Bor LentView)) (xlate : Translation) (table : List Rgb) (brush : BrushFace) (o : Operands) : Type 0 where
+  pub copies : CopiesFrom size format values src held xlate o
+  pub bits : IsMask mask o.mask
   pub paints : PaintsWith format table brush o
 
 -- a translation from the source of a drawing on bits of this format
@@ -61,20 +68,14 @@ operands_from t i = record {
 }
 
 -- the same with a translation that was made
-abbrev pub operands_with : Surface → Source → Option (Bor Surface) → Translation → Bor Brush → Operands
-operands_with t source mask xlate brush = record {
-  source = source_from t source;
-  mask = option_copied mask;
-  xlate = xlate;
-  brush = brush.now.face;
-  format = t.format;
-  table = t.table;
-}
+abbrev pub operands_with : Surface → Inputs → Translation → Operands
+operands_with t i xlate = record (operands_from t i) { xlate = xlate }
 
--- a call reaches a point of a surface
-pub record Reaches (call : DrawCall) (size : Size) : Type 0 where
+-- a call reaches a point of a surface that the clip lets through
+pub record Reaches (clip : Option (List Rect)) (call : DrawCall) (size : Size) : Type 0 where
   pub point : Point
   pub inside : IsTrue (is_in point (whole size))
+  pub clipped : IsTrue (in_clip clip point)
   pub reached : IsTrue (reach_of_call call point)
 
 -- a view shows a surface, or there is neither
@@ -97,8 +98,7 @@ held_for source = None
 
 -- the call, with that source
 abbrev pub holding : Source → BltCall → BltCall
-holding source c = record { target = c.target; rect = c.rect; held = held_for source; src = c.src; mask = c.mask; origin = c.origin; rop = c.rop }
+holding source c = record c { held = held_for source }
 
-abbrev pub is_own : Source → Bool
-is_own Own = true
-is_own source = false
+abbrev pub copy_holding : Source → CopyCall → CopyCall
+copy_holding source c = record c { held = held_for source }

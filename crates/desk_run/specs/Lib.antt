@@ -2,7 +2,7 @@ pub mod Status
 pub mod Input
 pub mod Reports
 pub mod Desk
-pub mod Parts
+pub mod Frames
 pub mod Drawing
 pub mod Rows
 pub mod Beside

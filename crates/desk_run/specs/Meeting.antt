@@ -5,8 +5,8 @@ use Rattle.script_read.specs.declared.desk_command.DeskCommand.{DeskCommand}
 use Rattle.desk_run.specs.Desk.{State, surface_at, name_of}
 use Rattle.desk_run.specs.Drawing.{Reaches}
 
--- a drawing reaches a point of what it draws on
+-- a drawing reaches a point of what it draws on, in the clip
 pub record Meets (s : State) (c : DeskCommand) : Type 0 where
   pub surface : Surface
   pub there : surface_at s (name_of c.target) ≡ Some surface
-  pub reached : Reaches c.call surface.size
+  pub reached : Reaches c.clip c.call surface.size

@@ -1,17 +1,22 @@
 -- A row of values that is copied.
-use Rattle.std.specs.Prelude.{◌≡◌, ◌<◌, ◌+◌, ℕ, false, List, length, slice_index, Some}
-use Rattle.surf_obj.specs.Changes.{Change}
+use Rattle.std.specs.Prelude.{◌≡◌, ℕ, false, List, length, slice_index, EachIndex, Some}
+use Rattle.pix_format.specs.Value.{bits_of}
+use Rattle.pix_format.specs.declared.format.Format.{Format}
+use Rattle.rop_mix.specs.Rop.{rop4_of}
 use Rattle.surf_obj.specs.Surface.{Surface}
 use Rattle.pix_format.specs.declared.rgb.Rgb.{Rgb}
-use Rattle.brush_obj.specs.Calls.{Operands}
+use Rattle.brush_obj.specs.Calls.{Operands, source_alone}
 use Rattle.desk_run.specs.Desk.{row_like, translation}
-use Rattle.surf_obj.specs.Surface.{point_at}
-use Rattle.rop_mix.specs.Rop.{rop4_of}
-use Rattle.brush_obj.specs.Calls.{source_alone}
 
--- a change gives the points from a column of a row on the low bits of these values
-abbrev pub GivesLow : Change → List ℕ → ℕ → ℕ → ℕ → Type 0
-GivesLow change values x y bits = (k d : ℕ) → k < length values → change (point_at (x + k) y) d ≡ Some (rop4_of source_alone false 0 (slice_index values k) 0 bits)
+-- what a copy keeps of a value in a surface's own format
+abbrev pub low_bits : Format → ℕ → ℕ
+low_bits format value = rop4_of source_alone false 0 value 0 (bits_of format)
+
+-- a surface of one row that looks like another, with what a copy keeps of some values
+pub record ShowsRow (t : Surface) (values : List ℕ) (row : Surface) : Type 0 where
+  pub looks : row ≡ row_like t row.values
+  pub long : length row.values ≡ length values
+  pub kept : EachIndex values (λ k. slice_index row.values k ≡ low_bits t.format (slice_index values k))
 
 -- the operands of a copy of a row of values in a surface's own format
 pub record CopiesRow (t : Surface) (values : List ℕ) (o : Operands) : Type 0 where

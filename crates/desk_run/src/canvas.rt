@@ -1,29 +1,27 @@
 //! The surfaces of the desk.
 
-ghost use Rattle.std.specs.Prelude.{◌≡◌, ◌<◌, ◌≤◌, ◌*◌, ◌^◌, ℕ, All, false, length, IfOk, take, drop, unwrap_or};
+ghost use Rattle.std.specs.Prelude.{◌≡◌, ◌<◌, ◌≤◌, ◌*◌, ◌^◌, All, false, length, IfOk, OnOk, OnErr, take, drop, unwrap_or};
 ghost use Rattle.std.specs.Option.{option_copied};
 ghost use Rattle.pix_format.specs.Value.{bits_of, colours_of};
 ghost use Rattle.brush_obj.specs.declared.face.BrushFace.TheVariants as faces;
-ghost use Rattle.geom_base.specs.Points.{is_in};
+ghost use Rattle.geom_base.specs.Points.{is_in_some, LiesIn};
 ghost use Rattle.surf_obj.specs.Changes.{changed};
 ghost use Rattle.surf_obj.specs.Layout.{layout_from, row_bytes, HasSides};
 ghost use Rattle.surf_obj.specs.Object.{object_layout, object_bytes, object_size, object_format, object_values};
 ghost use Rattle.surf_obj.specs.View.{view_size, view_format, view_values};
 ghost use Rattle.brush_obj.specs.Calls.{new_of_blt, new_of_copy, new_of_paint, Operands};
 ghost use Rattle.blt_kernel.specs.Given.{PaintsWith};
-ghost use Rattle.script_read.specs.Asked.{IsSurfaceSize, RowIsCopied};
-ghost use Rattle.script_read.specs.declared.desk_command.Feed.TheVariants.{Row};
-ghost use Rattle.brush_obj.specs.declared.draw_call.DrawCall.TheVariants.{Copy};
-ghost use Rattle.desk_run.specs.Rows.{CopiesRow};
+ghost use Rattle.script_read.specs.Asked.{IsSurfaceSize};
+ghost use Rattle.desk_run.specs.Rows.{ShowsRow};
 ghost use Rattle.desk_run.specs.Desk.{blank};
 ghost use Rattle.desk_run.specs.Drawing.{source_from, operands_with, IsViewOf};
 
-use crate::drawing::{Form, blt_on, paint_on};
-use crate::part::part_of;
-use crate::row::{first_value, put_values};
-use crate::source::Source;
+use crate::drawing::{Form, blt_on, copy_on, paint_on};
+use crate::inputs::Inputs;
+use crate::row::put_values;
 use brush_obj::{BltCall, BrushObj, CopyCall, PaintCall};
-use geom_base::{Size, Target};
+use clip_obj::ClipObj;
+use geom_base::Size;
 use pix_format::{ColourTable, Format, Rgb, XlateObj};
 use std::alloc::{AllocError, Global};
 use std::marker::Model;
@@ -63,15 +61,6 @@ impl Canvas {
         ensures { IfOk result (λ c. c ≡ blank size format table) }
     {
         let pixels = SurfObj::new(alloc, size, format)?;
-        Ok(Canvas { pixels, table })
-    }
-
-    /// Another surface like this one.
-    pub fn copied(&self, alloc: Global) -> Result<Canvas, AllocError>
-        ensures { IfOk result (λ c. c ≡ self.now) }
-    {
-        let pixels = self.pixels.copied(alloc)?;
-        let table = ColourTable::of(alloc, self.table.colours())?;
         Ok(Canvas { pixels, table })
     }
 
@@ -147,75 +136,98 @@ impl Canvas {
         }
     }
 
-    /// Draws a raster operation by a translation from its source.
+    /// A surface of one row like this one, with the low bits of these values.
+    pub fn row(&self, alloc: Global, values: &[u32]) -> Result<Canvas, AllocError>
+        requires some { 1 ≤ length values.now }
+        requires few { length values.now ≤ 4096 }
+        ensures { IfOk result (ShowsRow self.now values.now) }
+    {
+        let size = Size {
+            w: values.len() as u32,
+            h: 1,
+        };
+        let table = ColourTable::of(alloc, self.table.colours())?;
+        let mut pixels = SurfObj::new(alloc, size, self.pixels.format())?;
+        put_values(&mut pixels, values);
+        Ok(Canvas { pixels, table })
+    }
+
+    /// Draws a raster operation in the rectangles of a clip that lies in the surface, by a translation from its source.
+    ///
+    /// # Errors
+    ///
+    /// `AllocError` for want of memory; the surface is unchanged then.
     pub fn blt(
         &mut self,
+        alloc: Global,
         call: &BltCall,
-        source: Source<'_>,
-        mask: Option<&Canvas>,
+        inputs: &Inputs<'_>,
         xlate: &XlateObj,
-        brush: &BrushObj,
-    )
-        requires from { xlate.now.from ≡ (unwrap_or (source_from self.old source) self.old).format }
+        clip: &mut ClipObj,
+    ) -> Result<(), AllocError>
+        requires from { xlate.now.from ≡ (unwrap_or (source_from self.old inputs.now.source) self.old).format }
         requires to { xlate.now.to ≡ self.old.format }
-        ensures { self.new ≡ changed (new_of_blt call.now (operands_with self.old source.entry mask.entry xlate.now brush.entry)) (λ p. is_in p call.now.rect) self.old }
+        requires inside { All (λ r. LiesIn r self.old.size) clip.old.rects }
+        ensures ok { OnOk result (self.new ≡ changed (new_of_blt call.now (operands_with self.old inputs.now xlate.now)) (λ p. is_in_some p clip.old.rects) self.old) }
+        ensures err { OnErr result (self.new ≡ self.old) }
     {
-        let part = part_of(&call.rect, self.pixels.size());
-        if part.is_empty() {
-            return;
-        }
-        let source_view = source.view();
-        let mask_view = view_of(mask);
-        let call = source.holding(call);
+        let source_view = inputs.source.view();
+        let mask_view = view_of(inputs.mask);
+        let call = inputs.source.holding(call);
         let form = form_of(&self.pixels);
         blt_on(
+            alloc,
             self.pixels.bits_mut(),
             form,
-            part.rect(),
             &call,
             source_view.as_ref(),
             mask_view.as_ref(),
             xlate,
             &self.table,
-            brush,
+            inputs.brush,
+            clip,
+        )
+    }
+
+    /// Draws a copy in the rectangles of a clip that lies in the surface, by a translation from its source.
+    pub fn copy(
+        &mut self,
+        call: &CopyCall,
+        inputs: &Inputs<'_>,
+        xlate: &XlateObj,
+        clip: &mut ClipObj,
+    )
+        requires from { xlate.now.from ≡ (unwrap_or (source_from self.old inputs.now.source) self.old).format }
+        requires to { xlate.now.to ≡ self.old.format }
+        requires inside { All (λ r. LiesIn r self.old.size) clip.old.rects }
+        ensures { self.new ≡ changed (new_of_copy call.now (operands_with self.old inputs.now xlate.now)) (λ p. is_in_some p clip.old.rects) self.old }
+    {
+        let source_view = inputs.source.view();
+        let call = inputs.source.copy_holding(call);
+        let form = form_of(&self.pixels);
+        copy_on(
+            self.pixels.bits_mut(),
+            form,
+            &call,
+            source_view.as_ref(),
+            xlate,
+            clip,
         );
     }
 
-    /// Copies a row of values in the surface's own format, all of them to the rectangle of the call.
-    pub fn copy_row(&mut self, call: &CopyCall, values: &[u32])
-        requires { RowIsCopied (Row values.now) (Copy call.now) }
-        ensures { (o : Operands) → CopiesRow self.old values.now o → self.new ≡ changed (new_of_copy call.now o) (λ p. is_in p call.now.rect) self.old }
+    /// Draws a paint in the rectangles of a clip that lies in the surface.
+    pub fn paint(&mut self, call: &PaintCall, brush: &BrushObj, clip: &mut ClipObj)
+        requires { All (λ r. LiesIn r self.old.size) clip.old.rects }
+        ensures { (o : Operands) → PaintsWith self.old.format self.old.table brush.now.face o → self.new ≡ changed (new_of_paint call.now o) (λ p. is_in_some p clip.old.rects) self.old }
     {
-        let part = part_of(&call.rect, self.pixels.size());
-        if part.is_empty() {
-            return;
-        }
-        let from = first_value(&call.rect.left, part.left);
-        let len = (part.right - part.left) as usize;
-        put_values(
-            &mut self.pixels,
-            part.left,
-            part.top,
-            &values[from..from + len],
-        );
-    }
-
-    /// Draws a paint.
-    pub fn paint(&mut self, call: &PaintCall, brush: &BrushObj)
-        ensures { (o : Operands) → PaintsWith self.old.format self.old.table brush.now.face o → self.new ≡ changed (new_of_paint call.now o) (λ p. is_in p call.now.rect) self.old }
-    {
-        let part = part_of(&call.rect, self.pixels.size());
-        if part.is_empty() {
-            return;
-        }
         let form = form_of(&self.pixels);
         paint_on(
             self.pixels.bits_mut(),
             form,
-            part.rect(),
             call,
             &self.table,
             brush,
+            clip,
         );
     }
 }

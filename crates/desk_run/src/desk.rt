@@ -14,13 +14,14 @@ ghost use Rattle.std.specs.Prelude.{[], None};
 ghost use Rattle.script_read.specs.declared.desk_command.Spot.TheVariants as spots;
 
 use crate::canvas::Canvas;
-use crate::draw::draw_call;
+use crate::draw::{draw_call, draw_row};
 use crate::inputs::Inputs;
 use crate::others::{Others, plain_colour};
 use brush_obj::{BrushObj, DrawCall};
 use geom_base::Size;
 use pix_format::{ColourTable, Format, Rgb};
-use script_read::{BrushOrder, CreateOrder, DeskCommand, FaceOrder, Feed, Named, Spot};
+use region::Region;
+use script_read::{BrushOrder, CreateOrder, DeskCommand, FaceOrder, Feed, Named, NamedRegion, Spot};
 use std::alloc::{AllocError, Global};
 use std::marker::Model;
 
@@ -198,6 +199,16 @@ impl Desk {
 
 const BLACK: Rgb = Rgb { r: 0, g: 0, b: 0 };
 
+/// The region of a clip, where there is one.
+fn region_of(clip: &Option<NamedRegion>) -> Option<&Region>
+    ensures { option_copied result ≡ clip.now }
+{
+    match clip {
+        Some(named) => Some(named.region()),
+        None => None,
+    }
+}
+
 /// Carries out a drawing on a surface, beside the rest of the desk.
 fn draw_beside(
     alloc: Global,
@@ -208,11 +219,12 @@ fn draw_beside(
     requires { CanDraw command.now }
     ensures ok { OnOk result ((s : State) → IsBeside s command.now.target target.old others.entry → target.new ≡ drawn s command.now None target.old) }
     ensures err { OnErr result (target.new ≡ target.old) }
-    ensures meets { OnErr result (Reaches command.now.call target.old.size) }
+    ensures meets { OnErr result (Reaches command.now.clip command.now.call target.old.size) }
 {
+    let clip = region_of(&command.clip);
     if let Feed::Row(values) = &command.source {
         if let DrawCall::Copy(call) = &command.call {
-            target.copy_row(call, values.items());
+            return draw_row(alloc, target, call, values.items(), command.back, clip);
         }
         return Ok(());
     }
@@ -222,6 +234,7 @@ fn draw_beside(
         mask: others.mask(command.mask),
         brush: others.brush(command.brush, &plain),
         back: command.back,
+        clip,
     };
     draw_call(alloc, target, &command.call, &inputs)
 }

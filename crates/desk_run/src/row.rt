@@ -1,35 +1,41 @@
-//! A row of values on a surface.
+//! Rows of values.
 
-ghost use Rattle.std.specs.Prelude.{◌≡◌, ◌≤ℤ◌, ◌+ℤ◌, pos, ◌≤◌, ◌<◌, ◌+◌, length};
-ghost use Rattle.geom_base.specs.Points.{is_in, box_of};
-ghost use Rattle.pix_format.specs.Value.{bits_of};
-ghost use Rattle.surf_obj.specs.Changes.{Change};
+ghost use Rattle.std.specs.Prelude.{◌≡◌, ◌≤ℤ◌, ◌-ℤ◌, pos, ◌<◌, ◌^◌, length, EachIndex, slice_index};
 ghost use Rattle.surf_obj.specs.Object.{object_size, object_format, object_values, OnlyItsPixels};
-ghost use Rattle.surf_obj.specs.Surface.{redrawn};
-ghost use Rattle.desk_run.specs.Rows.{GivesLow};
+ghost use Rattle.desk_run.specs.Rows.{low_bits};
 
+use geom_base::Rect;
 use rop_mix::{Rop4, rop4_bits};
 use surf_obj::SurfObj;
 
-/// Which value of a row from a column on belongs to another column.
-pub fn first_value(row: &i32, column: u32) -> usize
-    requires { row.now ≤ℤ pos column }
-    ensures { (row.now +ℤ pos result) ≡ pos column }
+/// How many columns of a rectangle lie to the left of its frame.
+pub fn columns_before(rect: &Rect, frame: &Rect) -> usize
+    requires { rect.now.left ≤ℤ frame.now.left }
+    ensures columns { pos result ≡ frame.now.left -ℤ rect.now.left }
+    ensures fits { result < 2 ^ 32 }
 {
-    (i64::from(column) - i64::from(*row)) as usize
+    (i64::from(frame.left) - i64::from(rect.left)) as usize
 }
 
-/// Puts the low bits of values into a row, from a column on.
-pub fn put_values(pixels: &mut SurfObj, x: u32, y: u32, values: &[u32])
-    requires columns { x + length values.now ≤ (object_size pixels.old).w }
-    requires row { y < (object_size pixels.old).h }
-    ensures values { (change : Change) → GivesLow change values.now x y (bits_of (object_format pixels.old)) →
-        object_values pixels.new ≡ redrawn (object_size pixels.old) (object_values pixels.old) (λ p. is_in p (box_of x y (x + length values.now) (y + 1))) change }
+/// How many columns a rectangle has.
+pub fn width_of(rect: &Rect) -> usize
+    requires { rect.now.left ≤ℤ rect.now.right }
+    ensures columns { pos result ≡ rect.now.right -ℤ rect.now.left }
+    ensures fits { result < 2 ^ 32 }
+{
+    (i64::from(rect.right) - i64::from(rect.left)) as usize
+}
+
+/// Puts the low bits of values into a surface of one row.
+pub fn put_values(pixels: &mut SurfObj, values: &[u32])
+    requires columns { length values.now ≡ (object_size pixels.old).w }
+    requires row { (object_size pixels.old).h ≡ 1 }
+    ensures values { EachIndex values.now (λ k. slice_index (object_values pixels.new) k ≡ low_bits (object_format pixels.old) (slice_index values.now k)) }
     ensures only { OnlyItsPixels pixels.old pixels.new }
 {
     let bits = pixels.format().bits();
     for i in 0..values.len() {
         let value = rop4_bits(Rop4::of(0xcccc), false, 0, values[i], 0, bits);
-        pixels.set_pixel(x + i as u32, y, value);
+        pixels.set_pixel(i as u32, 0, value);
     }
 }

@@ -3,7 +3,7 @@
 ghost use Rattle.std.specs.Prelude.{◌≡◌};
 
 use crate::canvas::Canvas;
-use brush_obj::BltCall;
+use brush_obj::{BltCall, CopyCall};
 use geom_base::Target;
 use surf_obj::LentView;
 
@@ -17,7 +17,7 @@ pub enum Source<'a> {
 }
 
 impl<'a> Source<'a> {
-    ghost use Rattle.desk_run.specs.Drawing.{IsViewOf, held_for, is_own, holding, lent_from};
+    ghost use Rattle.desk_run.specs.Drawing.{IsViewOf, copy_holding, held_for, holding, lent_from};
 
     /// The pixels of another surface, to be read.
     pub fn view(self) -> Option<LentView<'a>>
@@ -34,21 +34,19 @@ impl<'a> Source<'a> {
         ensures { result ≡ holding self.entry call.now }
     {
         BltCall {
-            target: call.target,
-            rect: call.rect,
             held: self.held(),
-            src: call.src,
-            mask: call.mask,
-            origin: call.origin,
-            rop: call.rop,
+            ..*call
         }
     }
 
-    /// It is the surface that is drawn on.
-    pub fn is_own(self) -> bool
-        ensures { result ≡ is_own self.entry }
+    /// The same of a copy.
+    pub fn copy_holding(self, call: &CopyCall) -> CopyCall
+        ensures { result ≡ copy_holding self.entry call.now }
     {
-        matches!(self, Source::Own)
+        CopyCall {
+            held: self.held(),
+            ..*call
+        }
     }
 
     fn held(self) -> Option<Target>
