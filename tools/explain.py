@@ -24,7 +24,7 @@ RULES = {
     1: "an unknown command, or one that isn't built yet",
     2: "a wrong number of words",
     3: "the spelling of a number, a colour, a raster operation, a value or a fixed word",
-    4: "a number out of its range, a screen that isn't there, or a shifted region outside the coordinates",
+    4: "a number out of its range",
     5: "an unknown name, or a name of another kind",
     6: "a new name that is in use",
     7: "a new name that isn't a letter and at most 31 letters, digits or `_`",
