@@ -1,5 +1,6 @@
 #!/usr/bin/env python3
 """Checks tools/view.py: what it makes of small dumps is read back, and its pixels are compared with colours worked out by hand.
+The picture of the README has to be that of the example it is said to show.
 
     pictures.py
 """
@@ -10,7 +11,8 @@ import tempfile
 import zlib
 from pathlib import Path
 
-VIEW = Path(__file__).resolve().parent.parent / "tools" / "view.py"
+TOP = Path(__file__).resolve().parent.parent
+VIEW = TOP / "tools" / "view.py"
 CONFIG = '[[screen]]\nkind = "linear"\nx = 0\ny = 0\nwidth = 2\nheight = 1\nformat = "8"\n%%\n'
 GAP = " 606060" * 8
 # A name, the output, the input or nothing, further words, and the pictures by their names: rows of colours.
@@ -82,17 +84,20 @@ def colours_of(path):
     return [row[1:].hex(" ", 3) for row in rows]
 
 
-def made(case, folder):
-    _, output, script, words, _ = case
-    view(output, script, [*words, "--out", folder / "pictures"], folder)
-    return {path.stem: colours_of(path) for path in sorted(folder.glob("pictures/*.png"))}
+def made(output, script, words):
+    """The pictures that the tool makes, by their names."""
+    with tempfile.TemporaryDirectory() as name:
+        folder = Path(name)
+        view(output, script, [*words, "--out", folder / "pictures"], folder)
+        return {path.stem: colours_of(path) for path in sorted(folder.glob("pictures/*.png"))}
 
 
 def failures():
     """The names of the cases that fail, one after the other, and None for each that doesn't."""
-    for case in CASES:
-        with tempfile.TemporaryDirectory() as folder:
-            yield case[0] if made(case, Path(folder)) != case[4] else None
+    for name, output, script, words, pictures in CASES:
+        yield name if made(output, script, words) != pictures else None
+    desktop = made((TOP / "examples" / "desktop.expected").read_text(), "", ["--zoom", "2"])
+    yield "docs/desktop.png" if desktop != {"01_screen0": colours_of(TOP / "docs" / "desktop.png")} else None
     with tempfile.TemporaryDirectory() as folder:
         for output, script, said in FAULTS:
             run = view(output, script, [], Path(folder))
