@@ -105,13 +105,13 @@ def explained(data, text, status):
 
 def main():
     parser = argparse.ArgumentParser(description=__doc__, formatter_class=argparse.RawDescriptionHelpFormatter)
-    parser.add_argument("file", nargs="?", type=Path, help="the input, at first standard input")
-    parser.add_argument("--gdi", type=Path, default=GDI, metavar="PATH", help="the program, at first ./gdi beside this folder")
+    parser.add_argument("file", nargs="?", type=Path, help="the input; standard input where no file is named")
+    parser.add_argument("--gdi", type=Path, default=GDI, metavar="PATH", help="the program; ./gdi beside this folder where none is named")
     asked = parser.parse_args()
     try:
         data = asked.file.read_bytes() if asked.file else sys.stdin.buffer.read()
         # The word `check`, once the program has it, refuses the same inputs and draws nothing.
-        run = subprocess.run([asked.gdi.resolve(), "run"], input=data, stdout=subprocess.PIPE)
+        run = subprocess.run([str(asked.gdi.resolve()), "run"], input=data, stdout=subprocess.PIPE)
     except OSError as fault:
         sys.exit(f"explain: {fault}")
     print("\n".join(explained(data, run.stdout.decode(), run.returncode)))

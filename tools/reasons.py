@@ -13,7 +13,7 @@ NEEDED = {"SRC|-": "a source", "MASK|-": "a mask", "BRUSH|-": "a brush"}
 
 
 def unknown_command(words, names):
-    return 0, f"{quoted(words[0])} isn't a command."
+    return 0, f"{quoted(words[0])} isn't a command." + (" A tab is part of a word." if "\t" in words[0] else "")
 
 
 def word_count(words, names):

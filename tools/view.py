@@ -27,7 +27,7 @@ def options():
     parser = argparse.ArgumentParser(description=__doc__, formatter_class=argparse.RawDescriptionHelpFormatter)
     parser.add_argument("--out", type=Path, metavar="DIR", help="write PNG files there, in place of text on the terminal")
     parser.add_argument("--input", type=Path, metavar="FILE", help="the input with the colour tables")
-    parser.add_argument("--zoom", type=whole_number, default=1, metavar="N", help="each pixel as N by N, at first 1")
+    parser.add_argument("--zoom", type=whole_number, default=1, metavar="N", help="each pixel as N by N; 1 where none is given")
     parser.add_argument("--together", action="store_true", help="all dumps side by side in one picture")
     return parser.parse_args()
 
