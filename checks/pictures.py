@@ -36,6 +36,8 @@ CASES = [
     ("a table of its own", "dump b 2 1 1\n01\ndump 0 2 1 1\n01\nend 4\n",
      "table t 102030 405060\nbitmap b 2 1 1 t\ndump b\ndump 00\n", [],
      {"01_b": ["102030 405060"], "02_screen0": ["000000 ffffff"]}),
+    ("a screen's table", "dump 0 2 1 1\n01\nend 1\n", '[[screen]]\nformat = "1"\ntable = ["102030", "aBcDeF"]\n%%\ndump 0\n', [],
+     {"01_screen0": ["102030 abcdef"]}),
     ("a name used again", "dump b 1 1 1\n1\ndump b 1 1 1\n1\nend 6\n",
      "table t 102030 405060\nbitmap b 1 1 1 t\ndump b\ndelete b\nbitmap b 1 1 1\ndump b\n", [],
      {"01_b": ["405060"], "02_b": ["ffffff"]}),
@@ -53,9 +55,9 @@ WHITE_ALONE = "\x1b[38;2;255;255;255m\x1b[49m\N{UPPER HALF BLOCK}"
 
 
 def view(output, script, words, folder):
-    """Runs the tool on an output; an input is handed to it where there is a script."""
+    """Runs the tool on an output; an input is handed to it where there is a script, with a configuration where it has none."""
     source = folder / "input"
-    source.write_text(CONFIG + script)
+    source.write_text(script if "%%" in script else CONFIG + script)
     more = ["--input", source] if script else []
     return subprocess.run([VIEW, *words, *more], input=output.encode(), capture_output=True)
 
