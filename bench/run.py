@@ -3,20 +3,40 @@
 
 Each case is the difference of two runs of the program with other counts of one command, in Mpixel/s. Beside it stand the speeds of
 `memset` and `memcpy` of the target's bytes, and the part of one of them that the case reaches: of `memset` for paints, of `memcpy`
-for all else.
+for all else. The clipped cases draw in a thousand squares, and their pixels are those of the squares.
 """
 import argparse
 import subprocess
 import sys
 from pathlib import Path
+from typing import NamedTuple
 
 from timing import GDI, least, seconds_each
 
 WIDTH, HEIGHT = 1024, 768
 CONFIG = '[[screen]]\nkind = "linear"\nx = 0\ny = 0\nwidth = 1\nheight = 1\nformat = "8"\n%%\n'
 FORMATS = {8: "8", 16: "565", 32: "32"}
+# the squares of a clip: so many columns and rows of them, and how long their sides are
+COLUMNS, ROWS, SIDE = 40, 25, 16
 # about so many seconds are spent on the longer run of a case
 LONG = 0.3
+
+
+class Case(NamedTuple):
+    """A command that is measured, drawn in the squares alone where it is clipped."""
+    name: str
+    line: str
+    is_paint: bool
+    is_clipped: bool = False
+
+    def pixels(self):
+        return COLUMNS * ROWS * SIDE * SIDE if self.is_clipped else WIDTH * HEIGHT
+
+
+def squares():
+    """The region of the squares, which lie apart."""
+    corners = [(column * WIDTH // COLUMNS, row * HEIGHT // ROWS) for row in range(ROWS) for column in range(COLUMNS)]
+    return "region squares rects " + " ".join(f"{x} {y} {x + SIDE} {y + SIDE}" for x, y in corners)
 
 
 def setup(depth):
@@ -34,32 +54,35 @@ def setup(depth):
 
 
 def cases(depth):
-    """Each case with its command, and whether it is a paint."""
+    """The cases of a depth."""
     whole = f"0 0 {WIDTH} {HEIGHT}"
     found = [
-        ("solid paint", f"paint target {whole} #FF0000 13", True),
-        ("xor paint", f"paint target {whole} #FF0000 7", True),
-        ("hatch paint", f"paint target {whole} lines 13", True),
-        ("pattern paint", f"paint target {whole} tiles 13", True),
-        ("copy", f"copy target {whole} source 0 0", False),
-        ("copy by (1,1)", f"copy target 1 1 {WIDTH} {HEIGHT} target 0 0", False),
-        ("masked blt AACC", f"blt target {whole} source 0 0 mask 0 0 - AACC", False),
-        ("rop3 B8", f"blt target {whole} source 0 0 - 0 0 tiles B8B8", False),
+        Case("solid paint", f"paint target {whole} #FF0000 13", True),
+        Case("xor paint", f"paint target {whole} #FF0000 7", True),
+        Case("hatch paint", f"paint target {whole} lines 13", True),
+        Case("pattern paint", f"paint target {whole} tiles 13", True),
+        Case("copy", f"copy target {whole} source 0 0", False),
+        Case("copy by (1,1)", f"copy target 1 1 {WIDTH} {HEIGHT} target 0 0", False),
+        Case("masked blt AACC", f"blt target {whole} source 0 0 mask 0 0 - AACC", False),
+        Case("rop3 B8", f"blt target {whole} source 0 0 - 0 0 tiles B8B8", False),
+        Case("clipped paint", f"paint target {whole} #FF0000 13", True, True),
+        Case("clipped (1,1)", f"copy target 1 1 {WIDTH} {HEIGHT} target 0 0", False, True),
     ]
     if depth == 32:
-        found.append(("8 to 32", f"copy target {whole} narrow 0 0", False))
+        found.append(Case("8 to 32", f"copy target {whole} narrow 0 0", False))
     if depth == 8:
-        found.append(("32 to 8", f"copy target {whole} wide 0 0", False))
+        found.append(Case("32 to 8", f"copy target {whole} wide 0 0", False))
     return found
 
 
-def text(depth, line, count):
-    return (CONFIG + "\n".join(setup(depth) + [line] * count) + "\n").encode()
+def text(depth, case, count):
+    clip = [squares(), "clip squares"] if case.is_clipped else []
+    return (CONFIG + "\n".join(setup(depth) + clip + [case.line] * count) + "\n").encode()
 
 
-def spent(gdi, depth, line, runs):
-    """The seconds that a command takes."""
-    return seconds_each(lambda count, tries: least([gdi, "run"], text(depth, line, count), tries), runs, LONG, 90_000)
+def spent(gdi, depth, case, runs):
+    """The seconds that the command of a case takes."""
+    return seconds_each(lambda count, tries: least([gdi, "run"], text(depth, case, count), tries), runs, LONG, 90_000)
 
 
 def memory_of(program, depth):
@@ -70,12 +93,13 @@ def memory_of(program, depth):
     return [int(word) / 1e9 for word in said.stdout.split()]
 
 
-def row_of(name, depth, seconds, is_paint, memory):
-    pixels = WIDTH * HEIGHT / 1e6
-    row = f"{name:16} {depth:4} bits {pixels / seconds:9.0f} Mpixel/s"
+def row_of(case, depth, seconds, memory):
+    speed = case.pixels() / seconds / 1e6
+    row = f"{case.name:16} {depth:4} bits {speed:9.0f} Mpixel/s"
     if memory:
-        row += "".join(f" {pixels / each:9.0f}" for each in memory)
-        row += f" {memory[0 if is_paint else 1] / seconds:8.2f} of {'memset' if is_paint else 'memcpy'}"
+        speeds = [WIDTH * HEIGHT / each / 1e6 for each in memory]
+        row += "".join(f" {each:9.0f}" for each in speeds)
+        row += f" {speed / speeds[0 if case.is_paint else 1]:8.2f} of {'memset' if case.is_paint else 'memcpy'}"
     return row
 
 
@@ -91,12 +115,12 @@ def main():
     print(f"{'':34}{'' if not asked.memory else '           memset    memcpy'}")
     for depth in FORMATS:
         memory = memory_of(asked.memory, depth)
-        for name, line, is_paint in cases(depth):
+        for case in cases(depth):
             try:
-                seconds = spent(gdi, depth, line, asked.runs)
+                seconds = spent(gdi, depth, case, asked.runs)
             except subprocess.CalledProcessError as stopped:
-                sys.exit(f"bench: {name} at {depth} bits: the program ended with status {stopped.returncode}")
-            print(row_of(name, depth, seconds, is_paint, memory), flush=True)
+                sys.exit(f"bench: {case.name} at {depth} bits: the program ended with status {stopped.returncode}")
+            print(row_of(case, depth, seconds, memory), flush=True)
 
 
 if __name__ == "__main__":

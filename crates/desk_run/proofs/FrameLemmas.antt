@@ -85,8 +85,7 @@ crossing a b h = record {
 
 overlap_point : (a b : Rect) → overlap a b ≡ true → IsTrue (is_in (common a b) a) × IsTrue (is_in (common a b) b)
 overlap_point a b h =
-    let e = crossing a b h in
-    (
+    let e = crossing a b h in (
       (is_in-IsIn (common a b) a).1 (record { from_left = omega (arith, ints, clamps); to_right = omega (arith, ints, clamps, e.own.0, e.before.0); from_top = omega (arith, ints, clamps); to_bottom = omega (arith, ints, clamps, e.own.1, e.before.1) }),
       (is_in-IsIn (common a b) b).1 (record { from_left = omega (arith, ints, clamps); to_right = omega (arith, ints, clamps, e.past.0, e.other.0); from_top = omega (arith, ints, clamps); to_bottom = omega (arith, ints, clamps, e.past.1, e.other.1) }),
     )

@@ -112,23 +112,23 @@ module _ (t : Surface) (call : CopyCall) (values : List ℕ) (frame : Rect) (fro
         let inside : k < len = omega (arith, ints, column, wide, h.to_right) in
         let low = low_bits t.format (get_or values (from + k) 0) in
         let here : get_or row.values k 0 ≡ low =
-            shows.kept k (omega (arith, cut_long, inside)) ∙ ap (low_bits t.format) (get_or-take (from + len - from) (drop from values) k 0 (omega (arith, inside)) ∙ get_or-drop from values k 0) in
+        shows.kept k (omega (arith, cut_long, inside)) ∙ ap (low_bits t.format) (get_or-take (from + len - from) (drop from values) k 0 (omega (arith, inside)) ∙ get_or-drop from values k 0) in
         let across : point_across part.rect part.src p ≡ point_at k 0 =
-            let a : ((pos x -ℤ frame.left) +ℤ pos 0) ≡ pos k = omega (arith, ints, column) in
-            let b : ((pos y -ℤ frame.top) +ℤ pos 0) ≡ pos 0 = omega (arith, ints, line.0) in
-            rw (rect, corner) (λ i. record { x = a i; y = b i }) in
+        let a : ((pos x -ℤ frame.left) +ℤ pos 0) ≡ pos k = omega (arith, ints, column) in
+        let b : ((pos y -ℤ frame.top) +ℤ pos 0) ≡ pos 0 = omega (arith, ints, line.0) in
+        rw (rect, corner) (λ i. record { x = a i; y = b i }) in
         let over : point_across call.rect call.src p ≡ point_at (from + k) 0 =
-            let a : ((pos x -ℤ call.rect.left) +ℤ pos 0) ≡ pos (from + k) = omega (arith, ints, column, first) in
-            let b : ((pos y -ℤ call.rect.top) +ℤ pos 0) ≡ pos 0 = omega (arith, ints, line.1) in
-            rw start (λ i. record { x = a i; y = b i }) in
+        let a : ((pos x -ℤ call.rect.left) +ℤ pos 0) ≡ pos (from + k) = omega (arith, ints, column, first) in
+        let b : ((pos y -ℤ call.rect.top) +ℤ pos 0) ≡ pos 0 = omega (arith, ints, line.1) in
+        rw start (λ i. record { x = a i; y = b i }) in
         let shown : Option Surface = Some (row_like t row.values) in
         let one : new_of_copy part other p d ≡ Some low =
-            copy-source part other p d low
-            (row_gives other row.values back part.rect part.src p k (source ∙ ap (λ (s : Surface). Some s) shows.looks) (xlate ∙ ap (λ (s : Surface). translation s t back) shows.looks) across (omega (arith, shows.long, cut_long, inside)) ∙ ap (λ (v : ℕ). Some v) here)
-            (rw format (low_fits t (get_or values (from + k) 0))) in
+        copy-source part other p d low
+        (row_gives other row.values back part.rect part.src p k (source ∙ ap (λ (s : Surface). Some s) shows.looks) (xlate ∙ ap (λ (s : Surface). translation s t back) shows.looks) across (omega (arith, shows.long, cut_long, inside)) ∙ ap (λ (v : ℕ). Some v) here)
+        (rw format (low_fits t (get_or values (from + k) 0))) in
         let two : new_of_copy call o p d ≡ Some low =
-            copy-low call o p d (get_or values (from + k) 0) (row_gives o values given.back call.rect call.src p (from + k) given.source given.xlate over (omega (arith, fits, inside)))
-            ∙ ap (λ f. Some (rop4_of source_alone false 0 (get_or values (from + k) 0) 0 (bits_of f))) given.format in
+        copy-low call o p d (get_or values (from + k) 0) (row_gives o values given.back call.rect call.src p (from + k) given.source given.xlate over (omega (arith, fits, inside)))
+        ∙ ap (λ f. Some (rop4_of source_alone false 0 (get_or values (from + k) 0) 0 (bits_of f))) given.format in
         rw (one, two) refl
 
     pub row_copied : (clip : Point → Bool) → length t.values ≡ t.size.w * t.size.h → ((p : Point) → is_in p frame ≡ (is_in p call.rect && is_in p (whole t.size))) →

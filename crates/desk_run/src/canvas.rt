@@ -221,14 +221,7 @@ impl Canvas {
         ensures { (o : Operands) → PaintsWith self.old.format self.old.table brush.now.face o → self.new ≡ changed (new_of_paint call.now o) (λ p. is_in_some p clip.old.rects) self.old }
     {
         let form = form_of(&self.pixels);
-        paint_on(
-            self.pixels.bits_mut(),
-            form,
-            call,
-            &self.table,
-            brush,
-            clip,
-        );
+        paint_on(self.pixels.bits_mut(), form, call, &self.table, brush, clip);
     }
 }
 

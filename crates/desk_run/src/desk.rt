@@ -21,7 +21,9 @@ use brush_obj::{BrushObj, DrawCall};
 use geom_base::Size;
 use pix_format::{ColourTable, Format, Rgb};
 use region::Region;
-use script_read::{BrushOrder, CreateOrder, DeskCommand, FaceOrder, Feed, Named, NamedRegion, Spot};
+use script_read::{
+    BrushOrder, CreateOrder, DeskCommand, FaceOrder, Feed, Named, NamedRegion, Spot,
+};
 use std::alloc::{AllocError, Global};
 use std::marker::Model;
 

@@ -127,6 +127,35 @@ fn bitmaps_and_their_texts(rt: HostRuntime) -> Result<(), Fail> {
 }
 
 #[test]
+fn clips_and_their_texts(rt: HostRuntime) -> Result<(), Fail> {
+    let cases = [
+        (
+            "region a rects 0 0 2 2\nregion b xor a a\nclip b\npaint screen 0 0 4 2 #FFFFFF 13\ndump 0",
+            "dump 0 4 2 8\n00000000\n00000000\nend 5\n",
+        ),
+        (
+            "bitmap t 4 4 8\npixels t 0 0 00 01 02 03\npixels t 0 1 10 11 12 13\npixels t 0 2 20 21 22 23\npixels t 0 3 30 31 32 33\nregion r rects 0 0 2 4 0 2 4 4\nclip r\ncopy t 0 1 3 4 t 1 0\ndump t",
+            "dump t 4 4 8\n00010203\n01021213\n11121323\n21222333\nend 9\n",
+        ),
+        (
+            "region r rects -9 1 2 9 3 0 4 1\nclip r\npaint screen 0 0 4 2 #FFFFFF 13\nclip none\npaint screen 0 0 1 1 #FFFFFF 13\ndump 0",
+            "dump 0 4 2 8\nff0000ff\nffff0000\nend 6\n",
+        ),
+        (
+            "bitmap t 4 1 8\nregion r rects 0 0 1 1 2 0 3 1\nclip r\npixels t -1 0 09 01 02 03 04 05\ndump t",
+            "dump t 4 1 8\n01000300\nend 5\n",
+        ),
+    ];
+    for (script, want) in cases {
+        let bytes = input(rt.alloc(), script)?;
+        let (status, sink) = answer(rt.alloc(), "run", bytes, SMOOTH, SMOOTH)?;
+        assert_eq!(rt; status, Status::Done, "{script:?}");
+        assert_eq!(rt; sink.written(), want.as_bytes(), "{script:?}");
+    }
+    Ok(())
+}
+
+#[test]
 fn faults_of_streams(rt: HostRuntime) -> Result<(), Fail> {
     // The step and the failing call of the source and of the sink, the status, and how much of the text is written.
     let cases = [
