@@ -18,14 +18,14 @@ use Rattle.brush_obj.specs.declared.draw_call.DrawCall.{DrawCall}
 use Rattle.clip_obj.specs.Clip.{allows, LiesWithin}
 use Rattle.desk_run.specs.Desk.{in_clip}
 use Rattle.desk_run.specs.Drawing.{Reaches}
-use Rattle.desk_run.specs.Frames.{Meeting}
+use Rattle.desk_run.specs.Frames.{LetsThrough}
 use Rattle.desk_run.proofs.FrameLemmas.{allows-in_clip}
 
 -- the points of a frame on a surface are those of its rectangle
 abbrev pub IsFrameOf : Rect → Rect → Size → Type 0
 IsFrameOf frame r size = (p : Point) → is_in p frame ≡ (is_in p r && is_in p (whole size))
 
-pub whole_point : (size : Size) (x y : ℕ) → x < size.w → y < size.h → is_in (point_at x y) (whole size) ≡ true
+whole_point : (size : Size) (x y : ℕ) → x < size.w → y < size.h → is_in (point_at x y) (whole size) ≡ true
 whole_point size x y hx hy = grind (arith, nat_tests, ints)
 
 and_true : (b : Bool) → (b && true) ≡ b
@@ -62,7 +62,7 @@ both_true true false h = absurd (false≢true h)
 both_true false b h = absurd (false≢true h)
 
 -- a call whose frame meets the clip reaches a point in it
-pub reaches : (call : DrawCall) (clip : Option (List Rect)) (frame : Rect) (size : Size) → IsFrameOf frame (rect_of call) size → Meeting clip frame → Reaches clip call size
+pub reaches : (call : DrawCall) (clip : Option (List Rect)) (frame : Rect) (size : Size) → IsFrameOf frame (rect_of call) size → LetsThrough clip frame → Reaches clip call size
 reaches call clip frame size points m =
     let both = both_true (is_in m.point (rect_of call)) (is_in m.point (whole size)) (sym (points m.point) ∙ m.inside) in
     record { point = m.point; inside = both.1; clipped = m.clipped; reached = both.0 }

@@ -12,16 +12,23 @@ use Rattle.geom_base.specs.declared.size.Size.{Size}
 use Rattle.geom_base.specs.Points.{IsIn, is_in, is_in_some, LiesIn, no_rect}
 use Rattle.geom_base.proofs.PointLemmas.{is_in-IsIn, first_is_in}
 use Rattle.surf_obj.specs.Surface.{point_at, whole}
-use Rattle.clip_obj.specs.Clip.{allows}
+use Rattle.clip_obj.specs.Clip.{allows, LiesWithin}
 use Rattle.desk_run.specs.Desk.{in_clip}
-use Rattle.desk_run.specs.Frames.{overlap, LiesWithin, Meeting}
+use Rattle.desk_run.specs.Frames.{overlap, LetsThrough}
 
 -- a rectangle whose points are another's, and which has one, lies within it
-pub within_edges : (r s : Rect) → ((p : Point) → IsIn p r → IsIn p s) → (q : Point) → IsIn q r → LiesWithin r s
+pub within_edges : (r s : Rect) → ((p : Point) → IsIn p r → IsIn p s) → (q : Point) → IsIn q r → LiesWithin s r
 within_edges r s inside q h =
     let first = inside (record { x = r.left; y = r.top }) (record { from_left = omega (arith, ints); to_right = omega (arith, ints, h.from_left, h.to_right); from_top = omega (arith, ints); to_bottom = omega (arith, ints, h.from_top, h.to_bottom) }) in
     let last = inside (record { x = r.right -ℤ pos 1; y = r.bottom -ℤ pos 1 }) (record { from_left = omega (arith, ints, h.from_left, h.to_right); to_right = omega (arith, ints); from_top = omega (arith, ints, h.from_top, h.to_bottom); to_bottom = omega (arith, ints) }) in
-    record { left = first.from_left; top = first.from_top; right = omega (arith, ints, last.to_right); bottom = omega (arith, ints, last.to_bottom) }
+    record {
+      left = first.from_left;
+      across = omega (arith, ints, h.from_left, h.to_right);
+      right = omega (arith, ints, last.to_right);
+      top = first.from_top;
+      down = omega (arith, ints, h.from_top, h.to_bottom);
+      bottom = omega (arith, ints, last.to_bottom);
+    }
 
 no_point : (r : Rect) → is_in (record { x = r.left; y = r.top }) r ≡ false → (p : Point) → ¬ IsIn p r
 no_point r none p h = false≢true (sym none ∙ (is_in-IsIn (record { x = r.left; y = r.top }) r).1 (first_is_in r (omega (arith, ints, h.from_left, h.to_right)) (omega (arith, ints, h.from_top, h.to_bottom))))
@@ -117,12 +124,12 @@ first : (p : Point) (rects : List Rect) (b : Bool) → IsTrue b → IsTrue (b ||
 first p rects true h = refl
 first p rects false h = absurd (false≢true h)
 
-meets_first : (r frame : Rect) (rects : List Rect) → overlap r frame ≡ true → Meeting (Some (r ∷ rects)) frame
+meets_first : (r frame : Rect) (rects : List Rect) → overlap r frame ≡ true → LetsThrough (Some (r ∷ rects)) frame
 meets_first r frame rects e =
     let both = overlap_point r frame e in
     record { point = common r frame; clipped = first (common r frame) rects (is_in (common r frame) r) both.0; inside = both.1 }
 
-meets_later : (r frame : Rect) (rects : List Rect) → Meeting (Some rects) frame → Meeting (Some (r ∷ rects)) frame
+meets_later : (r frame : Rect) (rects : List Rect) → LetsThrough (Some rects) frame → LetsThrough (Some (r ∷ rects)) frame
 meets_later r frame rects m = record { point = m.point; clipped = later m.point rects (is_in m.point r) m.clipped; inside = m.inside }
 
 either : (Q : Type 0) (a b : Bool) → (a || b) ≡ true → (a ≡ true → Q) → (b ≡ true → Q) → Q
@@ -135,9 +142,9 @@ passed_then true b r h e = e
 passed_then false b r h e = absurd (false≢true h)
 
 -- rectangles of which one overlaps a frame
-pub some_meets : (rects : List Rect) (frame : Rect) → list_any (λ r. overlap r frame) rects ≡ true → Meeting (Some rects) frame
+pub some_meets : (rects : List Rect) (frame : Rect) → list_any (λ r. overlap r frame) rects ≡ true → LetsThrough (Some rects) frame
 some_meets [] frame h = absurd (false≢true h)
-some_meets (r ∷ rects) frame h = either (Meeting (Some (r ∷ rects)) frame) (overlap r frame) (list_any (λ r. overlap r frame) rects) h (meets_first r frame rects) (λ k. meets_later r frame rects (some_meets rects frame k))
+some_meets (r ∷ rects) frame h = either (LetsThrough (Some (r ∷ rects)) frame) (overlap r frame) (list_any (λ r. overlap r frame) rects) h (meets_first r frame rects) (λ k. meets_later r frame rects (some_meets rects frame k))
 
 -- rectangles of which none does
 pub none_meets : (rects : List Rect) (frame : Rect) → list_any (λ r. overlap r frame) rects ≡ false → (p : Point) → (in_clip (Some rects) p && is_in p frame) ≡ false
@@ -155,7 +162,7 @@ none_meets (r ∷ rects) frame h p =
     joined false b f h k = k
 
 -- a frame alone
-pub frame_meets : (frame : Rect) → overlap frame frame ≡ true → Meeting None frame
+pub frame_meets : (frame : Rect) → overlap frame frame ≡ true → LetsThrough None frame
 frame_meets frame h = record { point = common frame frame; clipped = refl; inside = (overlap_point frame frame h).0 }
 
 pub frame_empty : (frame : Rect) → overlap frame frame ≡ false → (p : Point) → (in_clip None p && is_in p frame) ≡ false

@@ -27,17 +27,15 @@ use Rattle.surf_obj.proofs.StepLemmas.{redrawn_grid}
 use Rattle.brush_obj.specs.Calls.{source_alone, Operands, new_of_copy, point_across, source_value, value_in, value_there}
 use Rattle.brush_obj.specs.declared.copy_call.CopyCall.{CopyCall}
 use Rattle.brush_obj.proofs.CallLemmas.{copy-low, copy-source}
+use Rattle.clip_obj.specs.Clip.{LiesWithin}
 use Rattle.script_read.specs.Drawing.{row_end, row_rect, zero_point}
 use Rattle.desk_run.specs.Desk.{row_like, translation}
-use Rattle.desk_run.specs.Frames.{LiesWithin}
 use Rattle.desk_run.specs.Rows.{CopiesRow, ShowsRow, low_bits}
+use Rattle.desk_run.proofs.DrawLemmas.{IsFrameOf, on_surface}
 
 -- a row ends at most so many columns behind its first
 row_ends : (x : ℤ) (n : ℕ) → row_end x n ≤ℤ (x +ℤ pos n)
 row_ends x n = grind (arith, ints)
-
-whole_point : (size : Size) (x y : ℕ) → x < size.w → y < size.h → is_in (point_at x y) (whole size) ≡ true
-whole_point size x y hx hy = grind (arith, nat_tests, ints)
 
 pub low_fits : (t : Surface) (v : ℕ) → low_bits t.format v < 2 ^ bits_of t.format
 low_fits t v = rop3_of-lt 204 0 v 0 (bits_of t.format)
@@ -62,7 +60,7 @@ row_shows t values blank shown table format formats tables new only each =
 -- a surface that is drawn on, a copy of values to a rectangle, and its frame on the surface
 module _ (t : Surface) (call : CopyCall) (values : List ℕ) (frame : Rect) (from len : ℕ)
     (copied : call.rect ≡ row_rect (record { x = call.rect.left; y = call.rect.top }) (length values)) (start : call.src ≡ zero_point)
-    (within : LiesWithin frame call.rect) (first : pos from ≡ frame.left -ℤ call.rect.left) (wide : pos len ≡ frame.right -ℤ frame.left) where
+    (within : LiesWithin call.rect frame) (first : pos from ≡ frame.left -ℤ call.rect.left) (wide : pos len ≡ frame.right -ℤ frame.left) where
   abbrev cut : List ℕ
   cut = take (from + len - from) (drop from values)
 
@@ -131,7 +129,7 @@ module _ (t : Surface) (call : CopyCall) (values : List ℕ) (frame : Rect) (fro
         ∙ ap (λ f. Some (rop4_of source_alone false 0 (get_or values (from + k) 0) 0 (bits_of f))) given.format in
         rw (one, two) refl
 
-    pub row_copied : (clip : Point → Bool) → length t.values ≡ t.size.w * t.size.h → ((p : Point) → is_in p frame ≡ (is_in p call.rect && is_in p (whole t.size))) →
+    pub row_copied : (clip : Point → Bool) → length t.values ≡ t.size.w * t.size.h → IsFrameOf frame call.rect t.size →
         changed (new_of_copy part other) (λ p. clip p && is_in p part.rect) t ≡ changed (new_of_copy call o) (λ p. clip p && is_in p call.rect) t
     row_copied clip long points =
         ap (λ (vs : List ℕ). record t { values = vs })
@@ -139,13 +137,9 @@ module _ (t : Surface) (call : CopyCall) (values : List ℕ) (frame : Rect) (fro
         (λ x y hx hy.
         let p = point_at x y in
         let d = value_at t.size t.values x y in
-        let area : is_in p part.rect ≡ is_in p call.rect = ap (is_in p) rect ∙ points p ∙ ap (λ (b : Bool). is_in p call.rect && b) (whole_point t.size x y hx hy) ∙ and_true (is_in p call.rect) in
+        let area : is_in p part.rect ≡ is_in p call.rect = ap (is_in p) rect ∙ on_surface frame call.rect t.size points x y hx hy in
         by (clip p) (is_in p part.rect) (is_in p call.rect) (value_after (new_of_copy part other) p d) (value_after (new_of_copy call o) p d) d area (λ h. alike x y d ((is_in-IsIn p frame).0 (sym (ap (is_in p) rect) ∙ h)))))
       where
-        and_true : (b : Bool) → (b && true) ≡ b
-        and_true true = refl
-        and_true false = refl
-
         by : (a b c : Bool) (u v d : ℕ) → b ≡ c → (IsTrue b → u ≡ v) → cond (a && b) u d ≡ cond (a && c) v d
         by true true true u v d e h = h refl
         by true false false u v d e h = refl

@@ -1,5 +1,5 @@
 -- What a call reaches of a surface under a clip.
-use Rattle.std.specs.Prelude.{◌≤ℤ◌, int_lt, ◌&&◌, Bool, IsTrue, List, Option}
+use Rattle.std.specs.Prelude.{int_lt, ◌&&◌, Bool, IsTrue, List, Option}
 use Rattle.geom_base.specs.declared.point.Point.{Point}
 use Rattle.geom_base.specs.declared.rect.Rect.{Rect}
 use Rattle.geom_base.specs.Points.{is_in}
@@ -16,15 +16,8 @@ share_rows a b = int_lt a.top a.bottom && int_lt a.top b.bottom && int_lt b.top 
 abbrev pub overlap : Rect → Rect → Bool
 overlap a b = share_columns a b && share_rows a b
 
--- no edge of a rectangle lies outside another
-pub record LiesWithin (r outer : Rect) : Type 0 where
-  pub left : outer.left ≤ℤ r.left
-  pub top : outer.top ≤ℤ r.top
-  pub right : r.right ≤ℤ outer.right
-  pub bottom : r.bottom ≤ℤ outer.bottom
-
 -- a point of a frame that a clip lets through
-pub record Meeting (clip : Option (List Rect)) (frame : Rect) : Type 0 where
+pub record LetsThrough (clip : Option (List Rect)) (frame : Rect) : Type 0 where
   pub point : Point
   pub clipped : IsTrue (in_clip clip point)
   pub inside : IsTrue (is_in point frame)

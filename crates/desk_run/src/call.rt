@@ -1,6 +1,6 @@
 //! The top call.
 
-ghost use Rattle.std.specs.Prelude.{◌≡◌, ◌≤◌, ◌*◌, ◌+◌, ◌⊎◌, ℕ, List, Some, None, Ok, map, length, string_bytes, is_some, IfOk, All};
+ghost use Rattle.std.specs.Prelude.{◌≡◌, ◌≤◌, ◌*◌, ◌+◌, ◌⊎◌, ℕ, List, Some, None, Ok, map, length, string_bytes, is_some, All};
 ghost use Rattle.desk_io.specs.Counts.{Rose};
 ghost use Rattle.desk_io.specs.Sources.{most_bytes};
 ghost use Rattle.desk_run.specs.Answers.{Answered, Ends, Says, form_of, input_of};
@@ -10,11 +10,12 @@ ghost use Rattle.desk_run.specs.declared.status.Status.TheVariants as status;
 
 use crate::desk::Desk;
 use crate::input::{Input, InputError, read_input};
+use crate::room::{LONGEST, WIDEST};
 use crate::run::{Ended, run_all};
 use crate::status::{InputRefusal, Status};
 use crate::text::plain_line;
 use desk_io::{ReadRefusal, Sink, Source, read_all, write_all};
-use std::alloc::{AllocError, Global};
+use std::alloc::Global;
 
 /// Whether the words are those of the form `run`.
 fn is_run(words: &Vec<String>) -> bool
@@ -37,16 +38,6 @@ fn say<K: Sink>(sink: &mut K, status: Status) -> Status
     status
 }
 
-/// Room for the values of the widest row and for its text.
-fn row_room(alloc: Global) -> Result<(Vec<u32>, Vec<u8>), AllocError>
-    ensures values { IfOk result (λ room. length room.0.items ≡ 4096) }
-    ensures text { IfOk result (λ room. length room.1.items ≡ 32769) }
-{
-    let values = vec![in alloc; 0u32; 4096]?;
-    let text = vec![in alloc; 0u8; 32769]?;
-    Ok((values, text))
-}
-
 /// Runs what an input asks for.
 fn run_input<K: Sink>(alloc: Global, input: &Input<'_>, sink: &mut K) -> Status
     requires size { IsSurfaceSize input.now.config.size }
@@ -57,9 +48,8 @@ fn run_input<K: Sink>(alloc: Global, input: &Input<'_>, sink: &mut K) -> Status
     let Ok(mut desk) = Desk::new(alloc, input.config.size) else {
         return Status::NoMemory;
     };
-    let Ok((mut values, mut line)) = row_room(alloc) else {
-        return Status::NoMemory;
-    };
+    let mut values = [0; WIDEST];
+    let mut line = [0; LONGEST];
     let script = &input.script;
     match run_all(
         alloc,

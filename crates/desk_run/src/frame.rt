@@ -7,7 +7,8 @@ ghost use Rattle.geom_base.specs.Points.{is_in, LiesIn};
 ghost use Rattle.geom_base.specs.declared.point.Point.{Point};
 ghost use Rattle.surf_obj.specs.Surface.{whole};
 ghost use Rattle.desk_run.specs.Desk.{in_clip};
-ghost use Rattle.desk_run.specs.Frames.{overlap, share_columns, share_rows, LiesWithin, Meeting};
+ghost use Rattle.desk_run.specs.Frames.{overlap, share_columns, share_rows, LetsThrough};
+ghost use Rattle.clip_obj.specs.Clip.{LiesWithin};
 
 use geom_base::{Rect, Size};
 use region::Region;
@@ -32,7 +33,7 @@ pub fn frame_of(rect: Rect, size: Size) -> Rect
     requires height { size.h ≤ 4096 }
     ensures inside { LiesIn result size }
     ensures points { (p : Point) → is_in p result ≡ (is_in p rect && is_in p (whole size)) }
-    ensures within { (p : Point) → IsTrue (is_in p result) → LiesWithin result rect }
+    ensures within { (p : Point) → IsTrue (is_in p result) → LiesWithin rect result }
 {
     rect.intersect(whole_of(size))
 }
@@ -67,7 +68,7 @@ fn any_overlaps(rects: &[Rect], frame: &Rect) -> bool
 
 /// A clip lets a point of a frame through. Without a region it lets all through.
 pub fn meets(clip: Option<&Region>, frame: &Rect) -> bool
-    ensures some { result ≡ true → Meeting (option_copied clip.entry) frame.now }
+    ensures some { result ≡ true → LetsThrough (option_copied clip.entry) frame.now }
     ensures none { result ≡ false → (p : Point) → (in_clip (option_copied clip.entry) p && is_in p frame.now) ≡ false }
 {
     match clip {

@@ -15,6 +15,7 @@ mod frame;
 mod input;
 mod inputs;
 mod others;
+mod room;
 mod row;
 mod run;
 mod source;

@@ -11,6 +11,7 @@ ghost use Rattle.desk_run.specs.Run.{Entry, GaveAs, MadeAs, WrittenAs, Ran, run}
 
 use crate::desk::Desk;
 use crate::dump::put_dump;
+use crate::room::{RowLine, RowValues};
 use crate::sum::put_sum;
 use crate::text::{end_line, wanting_line};
 use desk_io::{Sink, WriteFault, write_all};
@@ -67,11 +68,9 @@ fn dump<K: Sink>(
     script: &Script<'_>,
     desk: &Desk,
     name: Named,
-    values: &mut [u32],
-    line: &mut [u8],
+    values: &mut RowValues,
+    line: &mut RowLine,
 ) -> Result<(), WriteFault>
-    requires values { length values.old ≡ 4096 }
-    requires line { length line.old ≡ 32769 }
     ensures { Puts (option_map_or (dump_text script.now.names name) (surface_at desk.now name) []) (K.written sink.old) (K.written sink.new) (K.faults sink.old) (K.faults sink.new) (is_err result) }
 {
     let canvas = match desk.surface(name) {
@@ -96,9 +95,8 @@ fn sum<K: Sink>(
     script: &Script<'_>,
     desk: &Desk,
     name: Named,
-    values: &mut [u32],
+    values: &mut RowValues,
 ) -> Result<(), WriteFault>
-    requires { length values.old ≡ 4096 }
     ensures { Puts (option_map_or (sum_text script.now.names name) (surface_at desk.now name) []) (K.written sink.old) (K.written sink.new) (K.faults sink.old) (K.faults sink.new) (is_err result) }
 {
     let canvas = match desk.surface(name) {
@@ -148,13 +146,11 @@ fn carry_out<K: Sink>(
     script: &Script<'_>,
     number: u64,
     command: &ScriptCommand,
-    values: &mut [u32],
-    line: &mut [u8],
+    values: &mut RowValues,
+    line: &mut RowLine,
     sink: &mut K,
 ) -> Given
-    requires can { CanDo command.now }
-    requires values { length values.old ≡ 4096 }
-    requires line { length line.old ≡ 32769 }
+    requires { CanDo command.now }
     ensures { GaveAs script.now.names number command.now desk.old desk.new (K.written sink.old) (K.written sink.new) (K.faults sink.old) (K.faults sink.new) result }
 {
     match command {
@@ -178,14 +174,12 @@ pub fn run_all<K: Sink>(
     desk: &mut Desk,
     script: &Script<'_>,
     commands: &[ScriptCommand],
-    values: &mut [u32],
-    line: &mut [u8],
+    values: &mut RowValues,
+    line: &mut RowLine,
     sink: &mut K,
 ) -> Ended
     requires can { All CanDo commands.now }
     requires few { length commands.now ≤ 100000 }
-    requires values { length values.old ≡ 4096 }
-    requires line { length line.old ≡ 32769 }
     ensures { (h : List Entry) × Ran script.now.names commands.now desk.old (K.written sink.old) (K.written sink.new) (K.faults sink.old) (K.faults sink.new) result h × (desk.new ≡ run h desk.old) }
 {
     let mut whole = true;

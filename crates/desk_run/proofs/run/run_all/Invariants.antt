@@ -1,11 +1,9 @@
-use Rattle.std.proofs.Common.{◌≡◌, length, List}
+use Rattle.std.proofs.Common.{List}
 use Rattle.desk_run.specs.Run.{Entry}
 use Rattle.desk_run.proofs.HistoryLemmas.{SoFar}
 use Rattle.desk_run.proofs.run.run_all.Given as goal
 
 abbrev pub invariant-loop-i : goal.invariant-loop-i
 invariant-loop-i g l = record {
-  values : length l.values ≡ 4096;
-  line : length l.line ≡ 32769;
   so_far : (h : List Entry) × SoFar l.script.names l.commands l.fn.desk l.desk (g.K.Sink.written l.fn.sink) (g.K.Sink.written l.sink) (g.K.Sink.faults l.fn.sink) (g.K.Sink.faults l.sink) l.i l.whole h;
 }
