@@ -6,7 +6,8 @@
 At each of the seven formats: each raster operation of one byte on all eight combinations of a pattern's, a source's and
 the target's bit, at every bit of a value, alone and on either side of a mask; each mix on all four; and each shift of a
 rectangle of 5 by 4 inside a bitmap onto itself by up to three pixels in either direction, and over the bitmap's edges, as
-a copy, as an exclusive or and under a mask, where all of its points exist and where some don't.
+a copy, as an exclusive or and under a mask, where all of its points exist and where some don't, and under clips of several
+rectangles.
 """
 import argparse
 import random
@@ -19,6 +20,9 @@ from random_scripts import BITS, DIGITS
 CODES = 32
 SHIFTS = [(x, y) for y in range(-3, 4) for x in range(-3, 4)]
 PLACES = [("11 10", 3, 3), ("9 8", 2, 2), ("38 10", 30, 3)]
+# rectangles from the corner of what is drawn: teeth side by side, and stairs with more than one step in a row
+TEETH = [(0, 0, 1, 4), (2, 0, 3, 4), (4, 0, 5, 4)]
+STAIRS = [(0, 0, 2, 1), (4, 0, 5, 2), (1, 1, 3, 2), (0, 2, 1, 4), (2, 2, 5, 3), (3, 3, 4, 4)]
 
 
 def combined(form, operand, count):
@@ -61,17 +65,26 @@ def noise(name, size, form):
     return lines
 
 
-def shift_script(form, place):
+def clip_of(rects, left, top):
+    """The lines that make a clip of rectangles from a corner on, and the line that sets it; without rectangles there is none."""
+    if not rects:
+        return [], "clip none"
+    moved = (f"{left + x} {top + y} {left + right} {top + bottom}" for x, y, right, bottom in rects)
+    return ["region c rects " + " ".join(moved)], "clip c"
+
+
+def shift_script(form, place, rects=()):
     """Each shift in five ways, from the same bitmap; under the mask, and where some of its points don't exist."""
     size, left, top = place
     rect = f"t {left} {top} {left + 5} {top + 4}"
-    lines = noise("n", size, form) + noise("k", "5 4", "1") + [f"bitmap t {size} {form}"]
-    whole = "copy t 0 0 " + size + " n 0 0"
+    made, clip = clip_of(rects, left, top)
+    lines = noise("n", size, form) + noise("k", "5 4", "1") + [f"bitmap t {size} {form}"] + made
+    begin = ["clip none", "copy t 0 0 " + size + " n 0 0", clip]
     for x, y in SHIFTS:
         source = f"t {left + x} {top + y}"
         for way in ("- 0 0 - CCCC", "- 0 0 - 6666", "k 0 0 - AACC", "k 1 -1 - 33CC"):
-            lines += [whole, f"blt {rect} {source} {way}", "dump t"]
-        lines += [whole, f"copy {rect} {source}", "dump t"]
+            lines += begin + [f"blt {rect} {source} {way}", "dump t"]
+        lines += begin + [f"copy {rect} {source}", "dump t"]
     return lines
 
 
@@ -80,6 +93,7 @@ def scripts():
         yield from (rop_script(form, first) for first in range(0, 256, CODES))
         yield mix_script(form)
         yield from (shift_script(form, place) for place in PLACES)
+        yield from (shift_script(form, PLACES[0], rects) for rects in (TEETH, STAIRS))
 
 
 def differing(gdi, answer, lines):
