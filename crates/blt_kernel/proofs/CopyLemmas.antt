@@ -1,6 +1,5 @@
 -- Rows that are copied as bytes.
-use Rattle.std.proofs.Common.{◌≡◌, ℕ, pos, ◌+◌, ◌-◌, ◌*◌, ◌/◌, ◌%◌, ◌^◌, ◌<◌, List, length, refl, sym, subst, ap, ◌∙◌, arith, Option, Some, None, unsigned_abs}
-use Rattle.std.specs.Borrow.{Bor}
+use Rattle.std.proofs.Common.{◌≡◌, ℕ, pos, ◌+◌, ◌-◌, ◌*◌, ◌/◌, ◌^◌, ◌<◌, List, length, refl, sym, subst, ap, ◌∙◌, arith, Option, Some}
 use Rattle.geom_base.specs.declared.point.Point.{Point}
 use Rattle.geom_base.specs.declared.size.Size.{Size}
 use Rattle.geom_base.specs.Points.{is_in, box_of}
@@ -17,7 +16,7 @@ use Rattle.surf_obj.proofs.StepLemmas.{redrawn_rule}
 use Rattle.surf_obj.proofs.LentLemmas.{length-values_of}
 use Rattle.brush_obj.proofs.CallLemmas.{copied_value}
 use Rattle.blt_kernel.specs.Across.{place_across, value_across}
-use Rattle.blt_kernel.specs.Drawing.{drawn, drawn_value, own_value, given, ink_at, source_or_zero, size_from, values_from}
+use Rattle.blt_kernel.specs.Drawing.{drawn, drawn_value, own_value, given, ink_at, source_or_zero}
 use Rattle.blt_kernel.specs.Ways.{GivesSource}
 use Rattle.blt_kernel.specs.declared.across.Across.{Across}
 use Rattle.blt_kernel.specs.declared.drawing.Drawing.{Drawing}

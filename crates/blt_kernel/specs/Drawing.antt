@@ -15,11 +15,12 @@ use Rattle.surf_obj.specs.declared.lent.LentSurf.{LentSurf}
 use Rattle.surf_obj.specs.View.{view_size, view_format, view_values}
 use Rattle.surf_obj.specs.declared.view.LentView.{LentView}
 use Rattle.brush_obj.specs.Brush.{brush_value}
+use Rattle.brush_obj.specs.Hatches.{HatchFits, value_of_hatch}
 use Rattle.blt_kernel.specs.Across.{Reaches, value_across}
 use Rattle.blt_kernel.specs.declared.source.Source.{Source}
 use Rattle.blt_kernel.specs.declared.mask.Mask.{Mask}
 use Rattle.blt_kernel.specs.declared.ink.Ink.{Ink}
-use Rattle.blt_kernel.specs.declared.ink.Ink.TheVariants.{Solid, Face}
+use Rattle.blt_kernel.specs.declared.ink.Ink.TheVariants.{Solid, Hatch, Face}
 use Rattle.blt_kernel.specs.declared.drawing.Drawing.{Drawing}
 
 -- the size of a view, or that of the target where none was lent
@@ -62,6 +63,7 @@ mask_or_zero None p = 0
 -- the value that is painted with at a point
 abbrev pub ink_at : Ink → Format → Point → ℕ
 ink_at (Solid value) format p = value
+ink_at (Hatch hatch origin) format p = value_of_hatch hatch origin p
 ink_at (Face face table origin) format p = brush_value face.now format table.now origin p
 
 -- the new value of a point of a target of this size and format, which has these values
@@ -93,9 +95,10 @@ pub record SourceFits (size : Size) (format : Format) (left top right bottom : �
 abbrev pub MaskFits : ℕ → ℕ → ℕ → ℕ → Mask → Type 0
 MaskFits left top right bottom m = Reaches m.across (view_size m.view.now) left top right bottom
 
--- a value of the format; a table of the format
+-- a value of the format; two of them; a table of the format
 abbrev pub InkFits : Ink → Format → Type 0
 InkFits (Solid value) format = value < 2 ^ bits_of format
+InkFits (Hatch hatch origin) format = HatchFits format hatch
 InkFits (Face face table origin) format = length table.now ≡ colours_of format
 
 -- a drawing has all that it draws with for a box of a target of this size and format

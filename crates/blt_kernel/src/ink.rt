@@ -9,15 +9,20 @@ ghost use Rattle.brush_obj.specs.Brush.{brush_value};
 ghost use Rattle.geom_base.specs.declared.point.Point.{Point};
 ghost use Rattle.pix_format.specs.Value.{colours_of};
 
-use brush_obj::BrushFace;
+use brush_obj::{BrushFace, HatchValues};
 use geom_base::Point;
 use pix_format::{ColourTable, Format};
 use rop_mix::{Rop4, needs_pattern};
 
-/// What is painted with: one value, or a brush with the target's table and the point where its square begins.
+/// What is painted with: one value, a hatch in two values, or a brush with the target's table; and the point where its square
+/// begins.
 #[derive(Clone, Copy)]
 pub enum Ink<'a> {
     Solid(u32),
+    Hatch {
+        hatch: HatchValues,
+        origin: Point,
+    },
     Face {
         face: &'a BrushFace,
         table: &'a ColourTable,
@@ -32,8 +37,11 @@ impl<'a> Ink<'a> {
         ensures fits { InkFits result format }
         ensures values { (p : Point) → ink_at result format p ≡ brush_value face.now format table.now origin p }
     {
-        match face.solid_value(format, table) {
-            Some(value) => Ink::Solid(value),
+        if let Some(value) = face.solid_value(format, table) {
+            return Ink::Solid(value);
+        }
+        match face.hatch_values(format, table) {
+            Some(hatch) => Ink::Hatch { hatch, origin },
             None => Ink::Face {
                 face,
                 table,
@@ -71,6 +79,7 @@ impl Ink<'_> {
     {
         match self {
             Ink::Solid(value) => out.fill(*value),
+            Ink::Hatch { hatch, origin } => hatch.fill_row(*origin, point_at(x, y), out),
             Ink::Face {
                 face,
                 table,

@@ -11,6 +11,8 @@ use Rattle.geom_base.specs.declared.size.Size.{Size}
 use Rattle.pix_format.specs.declared.format.Format.{Format}
 use Rattle.pix_format.specs.declared.rgb.Rgb.{Rgb}
 use Rattle.brush_obj.specs.declared.face.BrushFace.{BrushFace}
+use Rattle.brush_obj.specs.declared.hatch_values.HatchValues.{HatchValues}
+use Rattle.brush_obj.specs.Hatches.{hatch_value, value_of_hatch}
 use Rattle.brush_obj.specs.Brush.{size_of, tile_value, brush_value, value_of_realised, IsRealised}
 use Rattle.brush_obj.specs.Realised.{Realised}
 use Rattle.brush_obj.specs.Wrapping.{wrapped}
@@ -23,6 +25,11 @@ pub tile_after : (face : BrushFace) (format : Format) (table : List Rgb) (origin
 tile_after face format table origin at size x y k same some column row =
     subst (λ (s : Size). tile_value face format table ((x + k % size.w) % s.w) y ≡ tile_value face format table (wrapped ((at.x +ℤ pos k) -ℤ origin.x) s.w) (wrapped (at.y -ℤ origin.y) s.h)) same
     (rw (column_after at.x origin.x k size.w some, column, row) refl)
+
+-- the value of a pixel of a row of a hatch in two values, likewise
+pub hatch_after : (h : HatchValues) (origin at : Point) (x y k : ℕ) → x ≡ wrapped (at.x -ℤ origin.x) 8 → y ≡ wrapped (at.y -ℤ origin.y) 8 →
+    hatch_value h ((x + k % 8) % 8) y ≡ value_of_hatch h origin (record { x = at.x +ℤ pos k; y = at.y })
+hatch_after h origin at x y k column row = rw (column_after at.x origin.x k 8 (omega arith), column, row) refl
 
 -- an item of a row of a grid
 pub row_item : (xs : List ℕ) (w h y j : ℕ) → length xs ≡ w * h → y < h → j < w → (length (slice_range xs (y * w) (y * w + w)) ≡ w) × (get_or (slice_range xs (y * w) (y * w + w)) j 0 ≡ get_or xs (y * w + j) 0)

@@ -26,6 +26,12 @@ is_solid (Solid colour) = true
 is_solid (Hatch kind fore back) = false
 is_solid (Pattern image) = false
 
+-- a brush is a hatch
+abbrev pub is_hatch : BrushFace → Bool
+is_hatch (Solid colour) = false
+is_hatch (Hatch kind fore back) = true
+is_hatch (Pattern image) = false
+
 -- The value at column x of row y of that tile, on a surface of a format and a table: that of the colour; that of the fore colour
 -- in the hatch and else that of the back colour; or the pattern's own value, converted.
 abbrev pub tile_value : BrushFace → Format → List Rgb → ℕ → ℕ → ℕ

@@ -1,7 +1,12 @@
--- The points of the hatches, in tiles of eight by eight.
-use Rattle.std.specs.Prelude.{ℕ, Bool, ◌+◌, ◌==◌, ◌||◌}
+-- The points of the hatches, in tiles of eight by eight, and hatches in two values.
+use Rattle.std.specs.Prelude.{ℕ, Bool, ◌+◌, ◌-ℤ◌, ◌==◌, ◌||◌, ◌<◌, ◌^◌, if◌then◌else◌}
+use Rattle.geom_base.specs.declared.point.Point.{Point}
+use Rattle.pix_format.specs.declared.format.Format.{Format}
+use Rattle.pix_format.specs.Value.{bits_of}
 use Rattle.brush_obj.specs.declared.hatch.Hatch.{Hatch}
 use Rattle.brush_obj.specs.declared.hatch.Hatch.TheVariants.{Horizontal, Vertical, FDiagonal, BDiagonal, Cross, DiagCross}
+use Rattle.brush_obj.specs.declared.hatch_values.HatchValues.{HatchValues}
+use Rattle.brush_obj.specs.Wrapping.{wrapped}
 
 -- the point at column x of row y is in the hatch: on the line through the middle across or down, on the diagonal that falls or
 -- rises to the right, or on one of two of these
@@ -12,3 +17,16 @@ in_hatch FDiagonal x y = x == y
 in_hatch BDiagonal x y = x + y == 7
 in_hatch Cross x y = (y == 4) || (x == 4)
 in_hatch DiagCross x y = (x == y) || (x + y == 7)
+
+-- the value at column x of row y of the tile of a hatch in two values
+abbrev pub hatch_value : HatchValues → ℕ → ℕ → ℕ
+hatch_value h x y = if in_hatch h.kind x y then h.fore else h.back
+
+-- the value at a point: the tile repeats from the origin on in all directions
+abbrev pub value_of_hatch : HatchValues → Point → Point → ℕ
+value_of_hatch h origin p = hatch_value h (wrapped (p.x -ℤ origin.x) 8) (wrapped (p.y -ℤ origin.y) 8)
+
+-- both values are of a format
+pub record HatchFits (format : Format) (h : HatchValues) : Type 0 where
+  pub fore : h.fore < 2 ^ bits_of format
+  pub back : h.back < 2 ^ bits_of format

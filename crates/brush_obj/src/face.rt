@@ -1,15 +1,16 @@
 //! What a brush looks like.
 
-ghost use Rattle.std.specs.Prelude.{◌≡◌, ◌≤◌, ◌<◌, ◌+◌, ◌%◌, ◌^◌, ◌+ℤ◌, pos, All, EachIndex, IfSome, is_some, length, slice_index, if◌then◌else◌};
-ghost use Rattle.brush_obj.specs.Hatches.{in_hatch};
+ghost use Rattle.std.specs.Prelude.{◌≡◌, ◌≤◌, ◌<◌, ◌+◌, ◌%◌, ◌^◌, ◌+ℤ◌, pos, All, EachIndex, IfSome, is_some, length, slice_index};
+ghost use Rattle.brush_obj.specs.Hatches.{HatchFits, value_of_hatch};
 ghost use Rattle.geom_base.specs.declared.point.Point.{Point};
 ghost use Rattle.pix_format.specs.Value.{bits_of, colours_of};
 
 use crate::hatch::Hatch;
+use crate::hatch_values::HatchValues;
 use crate::pattern::Pattern;
 use crate::rbrush::RBrush;
 use crate::repeating::repeat;
-use crate::wrapping::{turned, wrapped};
+use crate::wrapping::wrapped;
 use geom_base::{Point, Size};
 use pix_format::{ColourTable, Format, Rgb, value_of};
 
@@ -22,7 +23,7 @@ pub enum BrushFace {
 }
 
 impl BrushFace {
-    ghost use Rattle.brush_obj.specs.Brush.{IsRealised, brush_value, is_solid, size_of, tile_value};
+    ghost use Rattle.brush_obj.specs.Brush.{IsRealised, brush_value, is_hatch, is_solid, size_of, tile_value};
     ghost use Rattle.brush_obj.specs.Image.{HasPatternSides};
     ghost use Rattle.brush_obj.specs.Realised.{HasAllValues, IsReadyFor};
 
@@ -58,6 +59,21 @@ impl BrushFace {
     {
         match self {
             BrushFace::Solid(colour) => Some(value_of(format, table, *colour)),
+            _ => None,
+        }
+    }
+
+    /// The hatch in the values of its colours, or `None` where it isn't a hatch.
+    pub fn hatch_values(&self, format: Format, table: &ColourTable) -> Option<HatchValues>
+        requires { length table.now ≡ colours_of format }
+        ensures hatch { is_some result ≡ is_hatch self.now }
+        ensures values { IfSome result (λ h. (origin p : Point) → brush_value self.now format table.now origin p ≡ value_of_hatch h origin p) }
+        ensures fits { IfSome result (HatchFits format) }
+    {
+        match self {
+            BrushFace::Hatch { kind, fore, back } => {
+                Some(HatchValues::of(*kind, *fore, *back, format, table))
+            }
             _ => None,
         }
     }
@@ -111,24 +127,9 @@ impl BrushFace {
         match self {
             BrushFace::Solid(colour) => out.fill(value_of(format, table, *colour)),
             BrushFace::Hatch { kind, fore, back } => {
-                let fore = value_of(format, table, *fore);
-                let back = value_of(format, table, *back);
-                fill_hatch(*kind, fore, back, x, y, out);
+                HatchValues::of(*kind, *fore, *back, format, table).fill_part(x, y, out)
             }
             BrushFace::Pattern(pattern) => pattern.fill_part(format, table, x, y, out),
         }
-    }
-}
-
-/// A part of a row of a hatch in these two values, from column `x` of row `y` on.
-fn fill_hatch(kind: Hatch, fore: u32, back: u32, x: u32, y: u32, out: &mut [u32])
-    requires column { x < 8 }
-    requires row { y < 8 }
-    requires short { length out.old ≤ 8 }
-    ensures { EachIndex out.new (λ k. slice_index out.new k ≡ (if in_hatch kind ((x + k) % 8) y then fore else back)) }
-{
-    for k in 0..out.len() {
-        let column = turned(x as usize + k, 8) as u32;
-        out[k] = if kind.has(column, y) { fore } else { back };
     }
 }

@@ -2,7 +2,8 @@
 //!
 //! A brush is one colour, a hatch or a pattern. It fills the plane with a tile that repeats from an origin on in all
 //! directions; `brush_value` of `specs/Brush.antt` says which value it has at a point of a surface. `BrushFace` is what a brush
-//! looks like, and gives these values, at a point or along a row. `BrushObj` is a brush with slots, in which each driver that
+//! looks like, and gives these values, at a point or along a row; `HatchValues` gives those of a hatch whose colours were looked
+//! up once. `BrushObj` is a brush with slots, in which each driver that
 //! asked for it keeps an `RBrush`: the values of the tile on the driver's surfaces, worked out once.
 //!
 //! `BltCall`, `CopyCall` and `PaintCall` are calls on one surface, `DrawCall` is any of them. `new_of_blt`, `new_of_copy` and `new_of_paint` of
@@ -16,6 +17,7 @@ mod copy_call;
 mod draw_call;
 mod face;
 mod hatch;
+mod hatch_values;
 mod paint_call;
 mod pattern;
 mod rbrush;
@@ -32,6 +34,7 @@ pub use copy_call::CopyCall;
 pub use draw_call::DrawCall;
 pub use face::BrushFace;
 pub use hatch::Hatch;
+pub use hatch_values::HatchValues;
 pub use paint_call::PaintCall;
 pub use pattern::Pattern;
 pub use rbrush::RBrush;

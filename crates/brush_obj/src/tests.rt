@@ -58,6 +58,26 @@ fn points_of_hatches(rt: HostRuntime) -> Result<(), AllocError> {
     Ok(())
 }
 
+/// The falling diagonal of a tile that is moved.
+#[test]
+fn values_of_a_hatch(rt: HostRuntime) -> Result<(), AllocError> {
+    let table = ColourTable::standard(rt.alloc(), Format::B8)?;
+    let brush = BrushObj::hatch(rt.alloc(), Hatch::FDiagonal, RED, WHITE);
+    let hatch = brush
+        .face()
+        .hatch_values(Format::B8, &table)
+        .expect(&rt, "the brush is a hatch");
+    let mut row = [0; 12];
+    hatch.fill_row(Point { x: 3, y: -1 }, Point { x: -6, y: 1 }, &mut row);
+    let want = [
+        0xff, 0xff, 0xff, 0xe0, 0xff, 0xff, 0xff, 0xff, 0xff, 0xff, 0xff, 0xe0,
+    ];
+    assert_eq!(rt; row, want);
+    let solid = BrushObj::solid(rt.alloc(), RED);
+    assert!(rt; solid.face().hatch_values(Format::B8, &table).is_none());
+    Ok(())
+}
+
 /// The pattern 01 01 03, and where its columns fall.
 #[test]
 fn points_of_a_pattern(rt: HostRuntime) -> Result<(), AllocError> {

@@ -1,0 +1,7 @@
+use Rattle.std.proofs.Common.{◌≡◌, ◌<◌, ◌+◌, ◌%◌, ℕ, get_or}
+use Rattle.brush_obj.specs.Hatches.{hatch_value}
+use Rattle.brush_obj.proofs.hatch_values.HatchValues.fill_part.Given as goal
+
+-- the values below k are those of the hatch
+abbrev pub invariant-loop-k : goal.invariant-loop-k
+invariant-loop-k l = (j : ℕ) → j < l.k → get_or l.out j 0 ≡ hatch_value l.self ((l.x + j) % 8) l.y
