@@ -27,7 +27,7 @@ use Rattle.surf_obj.proofs.StepLemmas.{redrawn_grid}
 use Rattle.brush_obj.specs.Calls.{source_alone, Operands, new_of_copy, point_across, source_value, value_in, value_there}
 use Rattle.brush_obj.specs.declared.copy_call.CopyCall.{CopyCall}
 use Rattle.brush_obj.proofs.CallLemmas.{copy-low, copy-source}
-use Rattle.script_read.specs.Drawing.{row_end, row_rect, zero_point}
+use Rattle.script_orders.specs.Rows.{row_end, row_rect, zero_point}
 use Rattle.desk_run.specs.Desk.{row_like, translation}
 use Rattle.desk_run.specs.Frames.{LiesWithin}
 use Rattle.desk_run.specs.Rows.{CopiesRow, ShowsRow, low_bits}
