@@ -5,14 +5,14 @@ use Rattle.std.proofs.lemmas.List.{set-get_or}
 use Rattle.desk_io.specs.Sinks.{Puts, puts_as}
 use Rattle.surf_obj.specs.Surface.{Surface}
 use Rattle.surf_obj.specs.Changes.{changed_nowhere}
-use Rattle.script_read.specs.declared.desk_command.DeskCommand.{DeskCommand}
-use Rattle.script_read.specs.declared.desk_command.Spot.{Spot}
-use Rattle.script_read.specs.declared.desk_command.Spot.TheVariants as spots
-use Rattle.script_read.specs.declared.script_command.ScriptCommand.TheVariants.{Draw}
+use Rattle.script_orders.specs.declared.desk_command.DeskCommand.{DeskCommand}
+use Rattle.script_orders.specs.declared.desk_command.Spot.{Spot}
+use Rattle.script_orders.specs.declared.desk_command.Spot.TheVariants as spots
+use Rattle.script_orders.specs.declared.script_command.ScriptCommand.TheVariants.{Draw}
 use Rattle.desk_run.specs.Desk.{State, bitmap_at, carried, drawn, drawn_on, name_of, new_of}
 use Rattle.desk_run.specs.Meeting.{Meets}
 use Rattle.desk_run.specs.Reports.{Told, memory, report_on, same_name}
-use Rattle.script_read.specs.declared.named.Named.TheVariants.{Screen, Bitmap}
+use Rattle.script_orders.specs.declared.named.Named.TheVariants.{Screen, Bitmap}
 use Rattle.desk_run.specs.Run.{Carried}
 use Rattle.desk_run.specs.Texts.{BitmapNames, report_text}
 

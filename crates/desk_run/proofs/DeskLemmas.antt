@@ -10,9 +10,9 @@ use Rattle.brush_obj.specs.Calls.{Operands, new_of_copy}
 use Rattle.brush_obj.specs.Slots.{Brush}
 use Rattle.brush_obj.specs.declared.copy_call.CopyCall.{CopyCall}
 use Rattle.brush_obj.specs.declared.draw_call.DrawCall.TheVariants.{Copy}
-use Rattle.script_read.specs.declared.desk_command.DeskCommand.{DeskCommand}
-use Rattle.script_read.specs.declared.desk_command.Feed.TheVariants.{Row}
-use Rattle.script_read.specs.declared.desk_command.Spot.TheVariants as spots
+use Rattle.script_orders.specs.declared.desk_command.DeskCommand.{DeskCommand}
+use Rattle.script_orders.specs.declared.desk_command.Feed.TheVariants.{Row}
+use Rattle.script_orders.specs.declared.desk_command.Spot.TheVariants as spots
 use Rattle.desk_run.specs.declared.others.Others.{Others}
 use Rattle.desk_run.specs.Beside.{IsBeside, faces_of}
 use Rattle.desk_run.specs.Desk.{State, in_clip, source_of, operands_of, translation, drawn, drawn_on}

@@ -3,7 +3,7 @@ use Rattle.geom_base.specs.declared.size.Size.{Size}
 use Rattle.pix_format.specs.declared.format.Format.{Format}
 use Rattle.desk_io.specs.Sinks.{Puts, puts_on, puts_stopped}
 use Rattle.surf_obj.specs.Surface.{Surface}
-use Rattle.script_read.specs.declared.named.Named.{Named}
+use Rattle.script_orders.specs.declared.named.Named.{Named}
 use Rattle.pix_format.specs.Value.{digits_of}
 use Rattle.desk_run.specs.Texts.{BitmapNames, head_text, rows_text, dump_text}
 use Rattle.desk_run.proofs.PutLemmas.{puts_to}

@@ -2,7 +2,7 @@ use Rattle.std.proofs.Common.{◌≡◌, ℕ, suc, ◌+◌, ◌<◌, ◌≤◌, 
 use Rattle.std.specs.Prelude.{◌==◌, ◌&&◌}
 use Rattle.std.proofs.lemmas.List.{take_more, map-append, take_all, length-map}
 use Rattle.desk_io.specs.Sinks.{Puts, puts_nothing, puts_on}
-use Rattle.script_read.specs.declared.script_command.ScriptCommand.{ScriptCommand}
+use Rattle.script_orders.specs.declared.script_command.ScriptCommand.{ScriptCommand}
 use Rattle.desk_run.specs.declared.run.Ended.{Ended}
 use Rattle.desk_run.specs.declared.run.Ended.TheVariants as ended
 use Rattle.desk_run.specs.Desk.{State, carried}

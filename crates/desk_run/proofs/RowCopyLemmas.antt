@@ -28,7 +28,7 @@ use Rattle.brush_obj.specs.Calls.{source_alone, Operands, new_of_copy, point_acr
 use Rattle.brush_obj.specs.declared.copy_call.CopyCall.{CopyCall}
 use Rattle.brush_obj.proofs.CallLemmas.{copy-low, copy-source}
 use Rattle.clip_obj.specs.Clip.{LiesWithin}
-use Rattle.script_read.specs.Drawing.{row_end, row_rect, zero_point}
+use Rattle.script_orders.specs.Rows.{row_end, row_rect, zero_point}
 use Rattle.desk_run.specs.Desk.{row_like, translation}
 use Rattle.desk_run.specs.Rows.{CopiesRow, ShowsRow, low_bits}
 use Rattle.desk_run.proofs.DrawLemmas.{IsFrameOf, on_surface}

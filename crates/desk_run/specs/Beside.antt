@@ -6,12 +6,12 @@ use Rattle.pix_format.specs.Value.{black}
 use Rattle.surf_obj.specs.Surface.{Surface}
 use Rattle.brush_obj.specs.Slots.{Brush}
 use Rattle.brush_obj.specs.declared.face.BrushFace.{BrushFace}
-use Rattle.script_read.specs.declared.desk_command.BrushUse.{BrushUse}
-use Rattle.script_read.specs.declared.desk_command.BrushUse.TheVariants as uses
-use Rattle.script_read.specs.declared.desk_command.Feed.{Feed}
-use Rattle.script_read.specs.declared.desk_command.Feed.TheVariants as feeds
-use Rattle.script_read.specs.declared.desk_command.Spot.{Spot}
-use Rattle.script_read.specs.declared.desk_command.Spot.TheVariants as spots
+use Rattle.script_orders.specs.declared.desk_command.BrushUse.{BrushUse}
+use Rattle.script_orders.specs.declared.desk_command.BrushUse.TheVariants as uses
+use Rattle.script_orders.specs.declared.desk_command.Feed.{Feed}
+use Rattle.script_orders.specs.declared.desk_command.Feed.TheVariants as feeds
+use Rattle.script_orders.specs.declared.desk_command.Spot.{Spot}
+use Rattle.script_orders.specs.declared.desk_command.Spot.TheVariants as spots
 use Rattle.desk_run.specs.declared.others.Others.{Others}
 use Rattle.desk_run.specs.Desk.{State, bitmap_at}
 

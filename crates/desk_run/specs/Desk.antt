@@ -15,19 +15,19 @@ use Rattle.surf_obj.specs.Surface.{Surface}
 use Rattle.brush_obj.specs.Calls.{Operands, new_of_call, reach_of_call}
 use Rattle.brush_obj.specs.declared.face.BrushFace.{BrushFace}
 use Rattle.brush_obj.specs.declared.face.BrushFace.TheVariants as faces
-use Rattle.script_read.specs.declared.desk_command.BrushUse.{BrushUse}
-use Rattle.script_read.specs.declared.desk_command.BrushUse.TheVariants as uses
-use Rattle.script_read.specs.declared.desk_command.DeskCommand.{DeskCommand}
-use Rattle.script_read.specs.declared.desk_command.Feed.{Feed}
-use Rattle.script_read.specs.declared.desk_command.Feed.TheVariants as feeds
-use Rattle.script_read.specs.declared.desk_command.Spot.{Spot}
-use Rattle.script_read.specs.declared.desk_command.Spot.TheVariants as spots
-use Rattle.script_read.specs.declared.named.Named.{Named}
-use Rattle.script_read.specs.declared.named.Named.TheVariants.{Screen, Bitmap}
-use Rattle.script_read.specs.declared.orders.FaceOrder.{FaceOrder}
-use Rattle.script_read.specs.declared.orders.FaceOrder.TheVariants.{Solid, Hatch, Pattern}
-use Rattle.script_read.specs.declared.script_command.ScriptCommand.{ScriptCommand}
-use Rattle.script_read.specs.declared.script_command.ScriptCommand.TheVariants.{Create, Delete, Brush, Draw, Dump, Sum, Nothing}
+use Rattle.script_orders.specs.declared.desk_command.BrushUse.{BrushUse}
+use Rattle.script_orders.specs.declared.desk_command.BrushUse.TheVariants as uses
+use Rattle.script_orders.specs.declared.desk_command.DeskCommand.{DeskCommand}
+use Rattle.script_orders.specs.declared.desk_command.Feed.{Feed}
+use Rattle.script_orders.specs.declared.desk_command.Feed.TheVariants as feeds
+use Rattle.script_orders.specs.declared.desk_command.Spot.{Spot}
+use Rattle.script_orders.specs.declared.desk_command.Spot.TheVariants as spots
+use Rattle.script_orders.specs.declared.named.Named.{Named}
+use Rattle.script_orders.specs.declared.named.Named.TheVariants.{Screen, Bitmap}
+use Rattle.script_orders.specs.declared.orders.FaceOrder.{FaceOrder}
+use Rattle.script_orders.specs.declared.orders.FaceOrder.TheVariants.{Solid, Hatch, Pattern}
+use Rattle.script_orders.specs.declared.script_command.ScriptCommand.{ScriptCommand}
+use Rattle.script_orders.specs.declared.script_command.ScriptCommand.TheVariants.{Create, Delete, Brush, Draw, Dump, Sum, Nothing}
 use Rattle.desk_run.specs.declared.config.DeskConfig.{DeskConfig}
 use Rattle.desk_run.specs.Reports.{Told, report_on, part_of}
 

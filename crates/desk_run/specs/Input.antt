@@ -1,7 +1,7 @@
 -- The checked input: a configuration and commands, or the first refusal.
 use Rattle.std.specs.Prelude.{◌≡◌, ℕ, ◌+◌, ◌≤◌, List, take, drop, length, codes, Option, Some, None, Result, Ok, Err, nat_lt, if◌then◌else◌}
 use Rattle.desk_io.specs.Sources.{most_bytes}
-use Rattle.script_read.specs.Asked.{Asked}
+use Rattle.script_orders.specs.Asked.{Asked}
 use Rattle.desk_run.specs.declared.config.DeskConfig.{DeskConfig}
 use Rattle.desk_run.specs.declared.input.Input.{Input}
 use Rattle.desk_run.specs.declared.input.InputError.{InputError}

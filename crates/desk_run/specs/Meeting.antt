@@ -1,7 +1,7 @@
 -- Drawings that meet what they draw on.
 use Rattle.std.specs.Prelude.{◌≡◌, Some}
 use Rattle.surf_obj.specs.Surface.{Surface}
-use Rattle.script_read.specs.declared.desk_command.DeskCommand.{DeskCommand}
+use Rattle.script_orders.specs.declared.desk_command.DeskCommand.{DeskCommand}
 use Rattle.desk_run.specs.Desk.{State, surface_at, name_of}
 use Rattle.desk_run.specs.Drawing.{Reaches}
 

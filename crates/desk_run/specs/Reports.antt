@@ -4,8 +4,8 @@ use Rattle.std.specs.Option.{option_map_or}
 use Rattle.geom_base.specs.declared.point.Point.{Point}
 use Rattle.geom_base.specs.declared.rect.Rect.{Rect}
 use Rattle.geom_base.specs.Points.{is_in_some}
-use Rattle.script_read.specs.declared.named.Named.{Named}
-use Rattle.script_read.specs.declared.named.Named.TheVariants.{Screen, Bitmap}
+use Rattle.script_orders.specs.declared.named.Named.{Named}
+use Rattle.script_orders.specs.declared.named.Named.TheVariants.{Screen, Bitmap}
 
 -- why a command was not done whole
 pub data Cause : Type 0 where

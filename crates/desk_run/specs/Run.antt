@@ -5,9 +5,9 @@ use Rattle.std.specs.Option.{option_map_or}
 use Rattle.std.specs.declared.alloc.AllocError.{AllocError}
 use Rattle.desk_io.specs.Sinks.{Puts}
 use Rattle.desk_io.specs.declared.sink.WriteFault.{WriteFault as Fault}
-use Rattle.script_read.specs.declared.desk_command.DeskCommand.{DeskCommand}
-use Rattle.script_read.specs.declared.script_command.ScriptCommand.{ScriptCommand}
-use Rattle.script_read.specs.declared.script_command.ScriptCommand.TheVariants.{Create, Delete, Brush, Draw, Dump, Sum, Nothing}
+use Rattle.script_orders.specs.declared.desk_command.DeskCommand.{DeskCommand}
+use Rattle.script_orders.specs.declared.script_command.ScriptCommand.{ScriptCommand}
+use Rattle.script_orders.specs.declared.script_command.ScriptCommand.TheVariants.{Create, Delete, Brush, Draw, Dump, Sum, Nothing}
 use Rattle.desk_run.specs.declared.run.Ended.{Ended}
 use Rattle.desk_run.specs.declared.run.Given.{Given}
 use Rattle.desk_run.specs.declared.run.Given.TheVariants.{Whole, Wanting, Lacking, Broken}

@@ -8,8 +8,8 @@ use Rattle.pix_format.specs.declared.format.Format.{Format}
 use Rattle.pix_format.specs.declared.format.Format.TheVariants.{B1, B4, B8, B555, B565, B24, B32}
 use Rattle.pix_format.specs.Value.{digits_of}
 use Rattle.surf_obj.specs.Surface.{Surface}
-use Rattle.script_read.specs.declared.named.Named.{Named}
-use Rattle.script_read.specs.declared.named.Named.TheVariants.{Screen, Bitmap}
+use Rattle.script_orders.specs.declared.named.Named.{Named}
+use Rattle.script_orders.specs.declared.named.Named.TheVariants.{Screen, Bitmap}
 use Rattle.desk_run.specs.declared.status.InputRefusal.{InputRefusal}
 use Rattle.desk_run.specs.declared.status.InputRefusal.TheVariants.{Size, Config, Script}
 use Rattle.desk_run.specs.declared.status.Status.{Status}

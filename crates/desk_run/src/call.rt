@@ -4,7 +4,7 @@ ghost use Rattle.std.specs.Prelude.{◌≡◌, ◌≤◌, ◌*◌, ◌+◌, ◌�
 ghost use Rattle.desk_io.specs.Counts.{Rose};
 ghost use Rattle.desk_io.specs.Sources.{most_bytes};
 ghost use Rattle.desk_run.specs.Answers.{Answered, Ends, Says, form_of, input_of};
-ghost use Rattle.script_read.specs.Asked.{CanDo, IsSurfaceSize};
+ghost use Rattle.script_orders.specs.Asked.{CanDo, IsSurfaceSize};
 ghost use Rattle.desk_run.specs.Input.{checked, checked_of};
 ghost use Rattle.desk_run.specs.declared.status.Status.TheVariants as status;
 

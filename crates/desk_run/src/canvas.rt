@@ -11,7 +11,7 @@ ghost use Rattle.surf_obj.specs.Object.{object_layout, object_bytes, object_size
 ghost use Rattle.surf_obj.specs.View.{view_size, view_format, view_values};
 ghost use Rattle.brush_obj.specs.Calls.{new_of_blt, new_of_copy, new_of_paint, Operands};
 ghost use Rattle.blt_kernel.specs.Given.{PaintsWith};
-ghost use Rattle.script_read.specs.Asked.{IsSurfaceSize};
+ghost use Rattle.script_orders.specs.Asked.{IsSurfaceSize};
 ghost use Rattle.desk_run.specs.Rows.{ShowsRow};
 ghost use Rattle.desk_run.specs.Desk.{blank};
 ghost use Rattle.desk_run.specs.Drawing.{source_from, operands_with, IsViewOf};
@@ -39,7 +39,7 @@ impl Model for Canvas {
     ghost use Rattle.pix_format.specs.Value.{colours_of};
     ghost use Rattle.surf_obj.specs.Object.{object_size, object_format, object_values};
     ghost use Rattle.surf_obj.specs.Surface.{Surface};
-    ghost use Rattle.script_read.specs.Asked.{IsSurfaceSize};
+    ghost use Rattle.script_orders.specs.Asked.{IsSurfaceSize};
 
     ghost Value = { Surface };
 

@@ -3,7 +3,7 @@
 ghost use Rattle.std.specs.Prelude.{◌≡◌, IfOk, length, map, take};
 ghost use Rattle.desk_run.specs.Config.{AnswersConfig, config_of, has_fixed_lines, side_behind, side_of};
 ghost use Rattle.desk_run.specs.Input.{IsSide};
-ghost use Rattle.script_read.specs.Asked.{IsSurfaceSize};
+ghost use Rattle.script_orders.specs.Asked.{IsSurfaceSize};
 ghost use Rattle.script_words.specs.Lines.{lines_of};
 
 use crate::input::InputError;

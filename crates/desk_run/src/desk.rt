@@ -3,15 +3,15 @@
 ghost use Rattle.std.specs.Prelude.{◌≡◌, IfOk, OnOk, OnErr, false};
 ghost use Rattle.std.specs.Option.{option_copied};
 ghost use Rattle.surf_obj.specs.Changes.{changed};
-ghost use Rattle.script_read.specs.Asked.{CanCreate, CanDraw, IsSurfaceSize};
-ghost use Rattle.script_read.specs.declared.script_command.ScriptCommand.TheVariants as asked;
+ghost use Rattle.script_orders.specs.Asked.{CanCreate, CanDraw, IsSurfaceSize};
+ghost use Rattle.script_orders.specs.declared.script_command.ScriptCommand.TheVariants as asked;
 ghost use Rattle.desk_run.specs.Beside.{IsBeside};
 ghost use Rattle.desk_run.specs.Desk.{State, carried, drawn, face_made, first_state, surface_at};
 ghost use Rattle.desk_run.specs.Reports.{Told};
 ghost use Rattle.desk_run.specs.Meeting.{Meets};
 ghost use Rattle.desk_run.specs.Drawing.{Reaches};
 ghost use Rattle.std.specs.Prelude.{[], None};
-ghost use Rattle.script_read.specs.declared.desk_command.Spot.TheVariants as spots;
+ghost use Rattle.script_orders.specs.declared.desk_command.Spot.TheVariants as spots;
 
 use crate::canvas::Canvas;
 use crate::draw::{draw_call, draw_row};
@@ -21,7 +21,7 @@ use brush_obj::{BrushObj, DrawCall};
 use geom_base::Size;
 use pix_format::{ColourTable, Format, Rgb};
 use region::Region;
-use script_read::{
+use script_orders::{
     BrushOrder, CreateOrder, DeskCommand, FaceOrder, Feed, Named, NamedRegion, Spot,
 };
 use std::alloc::{AllocError, Global};

@@ -8,7 +8,7 @@ ghost use Rattle.desk_run.specs.Texts.{hex_digit, hex_digits, row_text, rows_tex
 use crate::canvas::Canvas;
 use crate::text::head_line;
 use desk_io::{Sink, WriteFault, write_all};
-use script_read::{Named, Script};
+use script_orders::{Named, Script};
 
 /// The hexadecimal digit of a number below 16.
 fn digit(n: u64) -> u8

@@ -4,14 +4,15 @@ ghost use Rattle.std.specs.Prelude.{◌≡◌, ◌≤◌, ◌<◌, ◌+◌, ◌^
 ghost use Rattle.std.specs.Option.{option_copied};
 ghost use Rattle.desk_run.specs.Input.{checked, AnswersInput, AnswersScript, script_of};
 ghost use Rattle.script_words.specs.Lines.{lines_after};
-ghost use Rattle.script_read.specs.Asked.{CanDo, IsSurfaceSize};
+ghost use Rattle.script_orders.specs.Asked.{CanDo, IsSurfaceSize};
 ghost use Rattle.desk_run.specs.declared.config.DeskConfig.{DeskConfig};
 ghost use Rattle.desk_run.specs.declared.input.InputError.TheVariants.{Refused, NoMemory};
 ghost use Rattle.desk_io.specs.Sources.{most_bytes};
 
 use crate::config::{DeskConfig, read_config};
 use crate::status::InputRefusal;
-use script_read::{Script, ScriptRefusal, read_script};
+use script_orders::Script;
+use script_read::{ScriptRefusal, read_script};
 use script_words::{FoundLine, find_line};
 use std::alloc::{AllocError, Global};
 

@@ -3,7 +3,7 @@
 ghost use Rattle.std.specs.Prelude.{◌≡◌};
 ghost use Rattle.std.specs.Option.{option_copied};
 ghost use Rattle.brush_obj.specs.declared.face.BrushFace.TheVariants as faces;
-ghost use Rattle.script_read.specs.Asked.{MaskIsOther};
+ghost use Rattle.script_orders.specs.Asked.{MaskIsOther};
 ghost use Rattle.surf_obj.specs.Surface.{Surface};
 ghost use Rattle.desk_run.specs.Desk.{State, face_of, mask_of, source_of};
 ghost use Rattle.desk_run.specs.Drawing.{source_from};
@@ -13,7 +13,7 @@ use crate::canvas::Canvas;
 use crate::source::Source;
 use brush_obj::BrushObj;
 use pix_format::Rgb;
-use script_read::{BrushUse, Feed, Spot};
+use script_orders::{BrushUse, Feed, Spot};
 
 /// The surfaces and brushes of a desk but for the surface that is drawn on.
 #[derive(Clone, Copy)]

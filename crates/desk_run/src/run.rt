@@ -3,8 +3,8 @@
 ghost use Rattle.std.specs.Prelude.{◌≡◌, ◌≤◌, ◌+◌, ◌*◌, ℕ, List, [], length, All, is_err};
 ghost use Rattle.std.specs.Option.{option_map_or};
 ghost use Rattle.desk_io.specs.Sinks.{Puts};
-ghost use Rattle.script_read.specs.Asked.{CanDo, CanDraw};
-ghost use Rattle.script_read.specs.declared.script_command.ScriptCommand.TheVariants as asked;
+ghost use Rattle.script_orders.specs.Asked.{CanDo, CanDraw};
+ghost use Rattle.script_orders.specs.declared.script_command.ScriptCommand.TheVariants as asked;
 ghost use Rattle.desk_run.specs.Desk.{State, name_of, surface_at, carried};
 ghost use Rattle.desk_run.specs.Texts.{dump_text, sum_text};
 ghost use Rattle.desk_run.specs.Run.{Entry, GaveAs, MadeAs, WrittenAs, Ran, run};
@@ -15,7 +15,7 @@ use crate::room::{RowLine, RowValues};
 use crate::sum::put_sum;
 use crate::text::{end_line, wanting_line};
 use desk_io::{Sink, WriteFault, write_all};
-use script_read::{DeskCommand, Named, Script, ScriptCommand, Spot};
+use script_orders::{DeskCommand, Named, Script, ScriptCommand, Spot};
 use std::alloc::{AllocError, Global};
 
 /// How the commands ended.

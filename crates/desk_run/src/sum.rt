@@ -7,7 +7,7 @@ ghost use Rattle.desk_run.specs.Texts.{sum_of, sum_on, sum_text};
 use crate::canvas::Canvas;
 use crate::text::sum_line;
 use desk_io::{Sink, WriteFault, write_all};
-use script_read::{Named, Script};
+use script_orders::{Named, Script};
 
 /// A sum with the values of a row: for each value 31 times the sum so far and the value, within 64 bits.
 fn with_row(sum: u64, values: &[u32]) -> u64

@@ -11,7 +11,7 @@ use arrayvec::ArrayVec;
 use geom_base::Size;
 use itoa::Buffer;
 use pix_format::Format;
-use script_read::{Named, Script};
+use script_orders::{Named, Script};
 
 pub type Line = ArrayVec<u8, 200>;
 

@@ -19,8 +19,10 @@ use Rattle.script_words.specs.Lines.{word_at}
 use Rattle.script_words.specs.Places.{IsCoordinate, AreCoordinates, is_well_ordered}
 use Rattle.region.specs.declared.operation.Operation.{Operation}
 use Rattle.script_read.specs.Commands.{has_room_for_rects, keep_region, read_region}
-use Rattle.script_read.specs.Names.{NameMap}
-use Rattle.script_read.specs.Regions.{combined_at, is_edge, has_edges, rects_from, listed_at, region_at, shift_at, shifted_at, named_region_at, FindsRegion}
+use Rattle.script_names.specs.Names.{NameMap}
+use Rattle.script_names.specs.Fields.{region_at}
+use Rattle.script_names.specs.Tails.{rects_from}
+use Rattle.script_read.specs.Regions.{combined_at, is_edge, has_edges, listed_at, shift_at, shifted_at, named_region_at, FindsRegion}
 use Rattle.script_read.specs.State.{State}
 
 -- coordinates of rectangles are coordinates of edges

@@ -2,8 +2,8 @@ use Rattle.std.proofs.Common.{◌≡◌, ℕ, ◌+◌, ◌≤◌, ◌<◌, Optio
 use Rattle.std.specs.Prelude.{All, IfSome}
 use Rattle.std.specs.Option.{option_to_list}
 use Rattle.std.proofs.lemmas.List.Elements.{All-push}
-use Rattle.script_read.specs.Asked.{Asked, CanDo}
-use Rattle.script_read.specs.declared.script_command.ScriptCommand.{ScriptCommand}
+use Rattle.script_orders.specs.Asked.{Asked, CanDo}
+use Rattle.script_orders.specs.declared.script_command.ScriptCommand.{ScriptCommand}
 use Rattle.script_words.specs.declared.fault.Fault.{Fault}
 use Rattle.script_words.specs.declared.fault.ReadError.{ReadError}
 use Rattle.script_words.specs.declared.fault.ReadError.TheVariants as errors

@@ -12,18 +12,19 @@ use Rattle.script_words.specs.Asking.{◌>>=◌, ask, each}
 use Rattle.script_words.specs.Lines.{word_at}
 use Rattle.script_words.specs.Places.{colour_at, rect_at, point_at, is_well_ordered}
 use Rattle.script_words.specs.Spelling.{count_in, hex_of}
-use Rattle.script_read.specs.declared.desk_command.BrushUse.TheVariants as uses
-use Rattle.script_read.specs.declared.desk_command.Feed.TheVariants as feeds
-use Rattle.script_read.specs.declared.desk_command.Spot.TheVariants as spots
-use Rattle.script_read.specs.declared.orders.CreateOrder.{CreateOrder}
-use Rattle.script_read.specs.declared.script_command.ScriptCommand.{ScriptCommand}
-use Rattle.script_read.specs.declared.script_command.ScriptCommand.TheVariants as asked
+use Rattle.script_orders.specs.declared.desk_command.BrushUse.TheVariants as uses
+use Rattle.script_orders.specs.declared.desk_command.Feed.TheVariants as feeds
+use Rattle.script_orders.specs.declared.desk_command.Spot.TheVariants as spots
+use Rattle.script_orders.specs.declared.orders.CreateOrder.{CreateOrder}
+use Rattle.script_orders.specs.declared.script_command.ScriptCommand.{ScriptCommand}
+use Rattle.script_orders.specs.declared.script_command.ScriptCommand.TheVariants as asked
 use Rattle.script_read.specs.declared.verb.Verb.{Verb}
 use Rattle.script_read.specs.declared.verb.Verb.TheVariants as verbs
-use Rattle.script_read.specs.Drawing.{feed_from, feed_for, mask_for, has_operands, is_mono, is_other, number_of_mask, row_rect, zero_point, blt_from, copy_from, paint_from}
-use Rattle.script_read.specs.Fields.{new_name, spot_at, bitmap_at, spot_or_none, bitmap_or_none, brush_at, brush_or_none, format_at, table_at, value_at, face_at, named_at}
-use Rattle.script_read.specs.Names.{NameMap, brush, bitmap, region, table, with_name, without_name}
-use Rattle.script_read.specs.Regions.{clip_at, named_region_at, operation_of}
+use Rattle.script_orders.specs.Rows.{row_rect, zero_point}
+use Rattle.script_read.specs.Drawing.{feed_from, feed_for, mask_for, has_operands, is_mono, is_other, number_of_mask, blt_from, copy_from, paint_from}
+use Rattle.script_names.specs.Fields.{new_name, spot_at, bitmap_at, spot_or_none, bitmap_or_none, brush_at, brush_or_none, format_at, table_at, value_at, face_at, named_at, clip_at, operation_of}
+use Rattle.script_names.specs.Names.{NameMap, brush, bitmap, region, table, with_name, without_name}
+use Rattle.script_read.specs.Regions.{named_region_at}
 use Rattle.script_read.specs.State.{State}
 
 -- a line's meaning: what it asks, and the state after it

@@ -1,5 +1,5 @@
 -- What a line that draws asks for.
-use Rattle.std.specs.Prelude.{ℕ, ℤ, pos, ◌+ℤ◌, Option, Some, None, is_some, Bool, true, false, not, ◌&&◌, ◌||◌, ◌==◌, if◌then◌else◌, int_le, option_map}
+use Rattle.std.specs.Prelude.{ℕ, Option, Some, None, is_some, Bool, true, false, not, ◌&&◌, ◌||◌, ◌==◌, if◌then◌else◌, option_map}
 use Rattle.std.specs.Option.{option_map_or}
 use Rattle.geom_base.specs.declared.point.Point.{Point}
 use Rattle.geom_base.specs.declared.rect.Rect.{Rect}
@@ -9,13 +9,13 @@ use Rattle.rop_mix.specs.Needs.{source_needed, pattern_needed, mask_needed}
 use Rattle.brush_obj.specs.declared.blt_call.BltCall.{BltCall}
 use Rattle.brush_obj.specs.declared.copy_call.CopyCall.{CopyCall}
 use Rattle.brush_obj.specs.declared.paint_call.PaintCall.{PaintCall}
-use Rattle.script_read.specs.declared.desk_command.Spot.{Spot}
-use Rattle.script_read.specs.declared.desk_command.Spot.TheVariants as spots
-use Rattle.script_read.specs.declared.desk_command.Feed.{Feed}
-use Rattle.script_read.specs.declared.desk_command.Feed.TheVariants as feeds
-use Rattle.script_read.specs.declared.desk_command.BrushUse.{BrushUse}
-use Rattle.script_read.specs.declared.desk_command.BrushUse.TheVariants as uses
-use Rattle.script_read.specs.declared.entry.Bitmap.{Bitmap}
+use Rattle.script_orders.specs.declared.desk_command.Spot.{Spot}
+use Rattle.script_orders.specs.declared.desk_command.Spot.TheVariants as spots
+use Rattle.script_orders.specs.declared.desk_command.Feed.{Feed}
+use Rattle.script_orders.specs.declared.desk_command.Feed.TheVariants as feeds
+use Rattle.script_orders.specs.declared.desk_command.BrushUse.{BrushUse}
+use Rattle.script_orders.specs.declared.desk_command.BrushUse.TheVariants as uses
+use Rattle.script_names.specs.declared.entry.Bitmap.{Bitmap}
 
 -- a source is read from the desk or from a bitmap
 abbrev pub feed_from : Spot → Feed
@@ -54,20 +54,6 @@ is_other target mask = option_map_or (λ (b : Bitmap). not (is_bitmap target b.n
 
 abbrev pub number_of_mask : Option Bitmap → Option ℕ
 number_of_mask mask = option_map (λ (b : Bitmap). b.number) mask
-
-abbrev pub greatest : ℤ
-greatest = pos 2147483647
-
--- the column behind so many from one on, but not past the greatest
-abbrev pub row_end : ℤ → ℕ → ℤ
-row_end x n = if int_le (x +ℤ pos n) greatest then x +ℤ pos n else greatest
-
--- so many points in a row from a point on
-abbrev pub row_rect : Point → ℕ → Rect
-row_rect at n = record { left = at.x; top = at.y; right = row_end at.x n; bottom = at.y +ℤ pos 1 }
-
-abbrev pub zero_point : Point
-zero_point = record { x = pos 0; y = pos 0 }
 
 abbrev pub blt_from : Rect → Point → Point → Point → ℕ → BltCall
 blt_from rect src mask origin code = record { target = Screen; rect = rect; held = None; src = src; mask = mask; origin = origin; rop = record { code = code } }

@@ -1,6 +1,3 @@
-pub mod Asked
-pub mod Names
-pub mod Fields
 pub mod Regions
 pub mod Drawing
 pub mod State

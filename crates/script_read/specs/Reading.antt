@@ -1,8 +1,8 @@
 -- A whole script.
 use Rattle.std.specs.Prelude.{◌≡◌, ℕ, ◌+◌, List, [], ◌∷◌, ◌++◌, length, slice_index, Option, Result, Ok, Err, Bool, ◌==◌, ◌||◌, if◌then◌else◌}
 use Rattle.std.specs.Option.{option_to_list}
-use Rattle.script_read.specs.declared.script_command.ScriptCommand.{ScriptCommand}
-use Rattle.script_read.specs.Asked.{Asked}
+use Rattle.script_orders.specs.declared.script_command.ScriptCommand.{ScriptCommand}
+use Rattle.script_orders.specs.Asked.{Asked}
 use Rattle.script_words.specs.declared.fault.Fault.{Fault}
 use Rattle.script_words.specs.declared.fault.Fault.TheVariants as faults
 use Rattle.script_words.specs.declared.fault.ReadError.{ReadError}

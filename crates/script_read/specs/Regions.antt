@@ -1,12 +1,11 @@
 -- What a region line asks: a list of rectangles, the canonical one of its points.
-use Rattle.std.specs.Prelude.{◌≡◌, ◌<◌, ◌≤◌, ℕ, ℤ, pos, negsuc, int_le, List, [], ◌∷◌, length, map, drop, codes, Option, Some, None, Result, Ok, Err, Bool, ◌&&◌, if◌then◌else◌}
+use Rattle.std.specs.Prelude.{◌≡◌, ◌<◌, ◌≤◌, ℕ, ℤ, pos, negsuc, int_le, List, length, map, drop, codes, Option, Some, None, Result, Ok, Err, Bool, ◌&&◌, if◌then◌else◌}
 use Rattle.std.specs.List.{list_all}
 use Rattle.std.specs.Str.{bytes_eq}
 use Rattle.geom_base.specs.declared.point.Point.{Point}
 use Rattle.geom_base.specs.declared.rect.Rect.{Rect}
 use Rattle.geom_base.specs.Points.{is_in_some, moved_rect}
 use Rattle.region.specs.declared.operation.Operation.{Operation}
-use Rattle.region.specs.declared.operation.Operation.TheVariants.{Union, Intersect, Subtract, Xor}
 use Rattle.region.specs.declared.refusal.RegionRefusal.{RegionRefusal}
 use Rattle.region.specs.declared.refusal.RegionRefusal.TheVariants.{TooMany, NoMemory}
 use Rattle.region.specs.Canonical.{canonical_rects}
@@ -14,42 +13,15 @@ use Rattle.region.specs.Moved.{moved_back}
 use Rattle.region.specs.Operation.{holds_after}
 use Rattle.region.specs.Window.{Within}
 use Rattle.script_words.specs.declared.fault.Fault.{Fault}
-use Rattle.script_words.specs.declared.fault.Fault.TheVariants.{Spelling, Range, UnknownName, NotOrdered}
+use Rattle.script_words.specs.declared.fault.Fault.TheVariants.{Spelling, Range, NotOrdered}
 use Rattle.script_words.specs.declared.fault.ReadError.{ReadError}
 use Rattle.script_words.specs.Asking.{◌>>=◌, ask, Fails}
 use Rattle.script_words.specs.Lines.{word_at}
-use Rattle.script_words.specs.Places.{rect_at, is_well_ordered}
+use Rattle.script_words.specs.Places.{is_well_ordered}
 use Rattle.script_words.specs.Spelling.{number_in}
-use Rattle.script_read.specs.Fields.{new_name}
-use Rattle.script_read.specs.Names.{Name, NameMap, no_clip, region}
-
--- a known region
-abbrev pub region_of : Option Name → Result (List Rect) Fault
-region_of (Some (region rects)) = Ok rects
-region_of _ = Err UnknownName
-
-abbrev pub region_at : NameMap → List ℕ → Result (List Rect) Fault
-region_at names word = region_of (names word)
-
--- a clip: none, or a known region
-abbrev pub clip_of : Option Name → Result (Option (List Rect)) Fault
-clip_of (Some no_clip) = Ok None
-clip_of (Some (region rects)) = Ok (Some rects)
-clip_of _ = Err UnknownName
-
-abbrev pub clip_at : NameMap → List ℕ → Result (Option (List Rect)) Fault
-clip_at names word = clip_of (names word)
-
--- a rectangle for each four words
-abbrev pub rects_from : List (List ℕ) → Result (List Rect) Fault
-rects_from [] = Ok []
-rects_from (a ∷ []) = Ok []
-rects_from (a ∷ b ∷ []) = Ok []
-rects_from (a ∷ b ∷ c ∷ []) = Ok []
-rects_from (a ∷ b ∷ c ∷ d ∷ words) = do
-  rect ← rect_at (a ∷ b ∷ c ∷ d ∷ []) 0
-  rects ← rects_from words
-  Ok (rect ∷ rects)
+use Rattle.script_names.specs.Fields.{new_name, operation_of, region_at}
+use Rattle.script_names.specs.Names.{NameMap}
+use Rattle.script_names.specs.Tails.{rects_from}
 
 -- rects [R ...]: the points of any of the rectangles
 abbrev pub listed_at : List (List ℕ) → Result (List Rect) Fault
@@ -57,15 +29,6 @@ listed_at words = do
   rects ← rects_from (drop 3 words)
   _ ← ask (list_all is_well_ordered rects) NotOrdered
   Ok (canonical_rects (λ p. is_in_some p rects))
-
--- the operation of a word
-abbrev pub operation_of : List ℕ → Option Operation
-operation_of word =
-    if bytes_eq word (codes "union") then Some Union
-    else if bytes_eq word (codes "intersect") then Some Intersect
-    else if bytes_eq word (codes "subtract") then Some Subtract
-    else if bytes_eq word (codes "xor") then Some Xor
-    else None
 
 -- OP A B
 abbrev pub combined_at : Option Operation → NameMap → List (List ℕ) → Result (List Rect) Fault

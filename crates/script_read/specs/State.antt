@@ -6,9 +6,9 @@ use Rattle.pix_format.specs.declared.rgb.Rgb.{Rgb}
 use Rattle.script_words.specs.declared.fault.Fault.{Fault}
 use Rattle.script_words.specs.declared.fault.ReadError.{ReadError}
 use Rattle.script_words.specs.declared.fault.ReadError.TheVariants as errors
-use Rattle.script_read.specs.declared.script_command.ScriptCommand.{ScriptCommand}
+use Rattle.script_orders.specs.declared.script_command.ScriptCommand.{ScriptCommand}
 use Rattle.script_read.specs.declared.reader.Reader.{Reader}
-use Rattle.script_read.specs.Names.{NameMap, names_of, first_names}
+use Rattle.script_names.specs.Names.{NameMap, names_of, first_names}
 
 -- the names in use; how many names were made and are in use, and how many of them are brushes, tables and bitmaps; the pixels of these
 -- bitmaps together; the rectangles of all named regions together; the names of all bitmaps that were made, in order; the brush origin,

@@ -1,24 +1,22 @@
 //! The lines that draw. They change nothing of what is kept from line to line.
 
 ghost use Rattle.std.specs.Prelude.{◌≡◌, ◌≤◌, ◌≤ℤ◌, pos, IfOk, length, map};
-ghost use Rattle.script_read.specs.Asked.{CanDo};
+ghost use Rattle.script_orders.specs.Asked.{CanDo};
 ghost use Rattle.brush_obj.specs.declared.draw_call.DrawCall.TheVariants as calls;
-ghost use Rattle.script_read.specs.Drawing.{copy_from, row_end, row_rect};
+ghost use Rattle.script_orders.specs.Rows.{row_end, row_rect};
+ghost use Rattle.script_read.specs.Drawing.{copy_from};
 ghost use Rattle.script_read.specs.State.{Reads, state_of};
 ghost use Rattle.script_read.specs.Commands.{read_blt, read_copy, read_paint, read_pixels};
 
-use crate::desk_command::{BrushUse, DeskCommand, Feed, Spot};
-use crate::fields::{bitmap, bitmap_or_none, brush, brush_or_none, mix, spot, spot_or_none};
 use crate::operands::{
     feed_for, feed_from, has_operands, is_mono, is_other, mask_for, number_of_mask,
 };
 use crate::reader::Reader;
-use crate::script_command::ScriptCommand;
-use crate::tails::values;
-use crate::values::Values;
 use brush_obj::{BltCall, CopyCall, DrawCall, PaintCall};
 use geom_base::{Point, Rect, Target};
 use rop_mix::{Rop4, needs_mask, needs_source};
+use script_names::{bitmap, bitmap_or_none, brush, brush_or_none, mix, spot, spot_or_none, values};
+use script_orders::{BrushUse, DeskCommand, Feed, ScriptCommand, Spot, Values};
 use script_words::{Fault, ReadError, hexadecimal, point, rect, well_ordered, word};
 use std::alloc::Global;
 

@@ -5,22 +5,19 @@ ghost use Rattle.script_words.specs.Lines.{word_at};
 ghost use Rattle.pix_format.specs.Value.{colours_of};
 ghost use Rattle.surf_obj.specs.Layout.{HasSides};
 ghost use Rattle.script_words.specs.Asking.{Gives};
-ghost use Rattle.script_read.specs.Asked.{CanDo, IsSurfaceSize};
-ghost use Rattle.script_read.specs.Names.{names_of};
+ghost use Rattle.script_orders.specs.Asked.{CanDo, IsSurfaceSize};
+ghost use Rattle.script_names.specs.Names.{names_of};
 ghost use Rattle.script_read.specs.State.{Reads, state_of};
 ghost use Rattle.script_read.specs.Commands.{has_room, has_room_for, create_at, keep_bitmap, read_bitmap, read_brush, read_delete, read_table};
 
-use crate::entry::{Bitmap, Entry};
-use crate::faces::face;
-use crate::fields;
-use crate::fields::{bitmap as known_bitmap, format, new_name};
-use crate::names::Names;
-use crate::orders::{BrushOrder, CreateOrder};
 use crate::reader::Reader;
-use crate::script_command::ScriptCommand;
-use crate::tails::colours;
 use geom_base::Size;
 use pix_format::ColourTable;
+use script_names::{
+    Bitmap, Entry, Names, bitmap as known_bitmap, colours, face, format, new_name,
+    table as table_of,
+};
+use script_orders::{BrushOrder, CreateOrder, ScriptCommand};
 use script_words::{Fault, ReadError, count, word};
 use std::alloc::Global;
 
@@ -97,7 +94,7 @@ fn create(
     let w = count(word(words, 2), 1, 4096)?;
     let h = count(word(words, 3), 1, 4096)?;
     let format = format(word(words, 4))?;
-    let table = fields::table(alloc, names, words, format)?;
+    let table = table_of(alloc, names, words, format)?;
     if table.colours().len() != format.colours() {
         return Err(ReadError::Fault(Fault::TableMisfit));
     }

@@ -1,12 +1,12 @@
 //! What a raster operation needs, and whether it is given.
 
 ghost use Rattle.std.specs.Prelude.{◌≡◌, IsTrue};
-ghost use Rattle.script_read.specs.Asked.{MaskIsOther};
+ghost use Rattle.script_orders.specs.Asked.{MaskIsOther};
 ghost use Rattle.script_read.specs.Drawing.{feed_from, feed_for, mask_for, is_brush, has_operands, is_mono, is_bitmap, is_other, number_of_mask};
 
-use crate::desk_command::{BrushUse, Feed, Spot};
-use crate::entry::Bitmap;
 use rop_mix::{Rop4, needs_mask, needs_pattern, needs_source};
+use script_names::Bitmap;
+use script_orders::{BrushUse, Feed, Spot};
 
 /// A source is read from the desk or from a bitmap.
 pub fn feed_from(spot: Spot) -> Feed

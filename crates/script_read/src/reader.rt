@@ -3,16 +3,13 @@
 ghost use Rattle.std.specs.Prelude.{All, ◌≡◌, ◌<◌, ◌≤◌, ◌+◌, IfOk, IfSome, length, map};
 
 use crate::drawings::{blt, copy, paint, pixels};
-use crate::entry::Entry;
-use crate::fields::{clip, named};
-use crate::named_region::NamedRegion;
-use crate::names::Names;
 use crate::naming::{bitmap, brush, delete, table};
 use crate::regions::region;
-use crate::script_command::ScriptCommand;
 use crate::verb::{Verb, fits_count, verb_of};
 use geom_base::Point;
 use pix_format::Rgb;
+use script_names::{Entry, Names, clip, named};
+use script_orders::{NamedRegion, ScriptCommand};
 use script_words::{Fault, ReadError, colour, point, word, words};
 use std::alloc::{AllocError, Global};
 
@@ -45,7 +42,7 @@ pub struct Reader<'a> {
 
 impl<'a> Reader<'a> {
     ghost use Rattle.std.specs.Option.{option_to_list};
-    ghost use Rattle.script_read.specs.Asked.{CanDo};
+    ghost use Rattle.script_orders.specs.Asked.{CanDo};
     ghost use Rattle.script_read.specs.State.{Reads, first_state, state_of};
     ghost use Rattle.script_read.specs.Reading.{ReadsText, read_text_line};
     ghost use Rattle.script_read.specs.Commands.{meaning_of, read_back, read_brushorg, read_clip, read_dump, read_line, read_sum};

@@ -3,14 +3,13 @@
 ghost use Rattle.std.specs.Prelude.{◌≡◌, ◌≤◌, ◌+◌, ◌<◌, ◌^◌, ◌++◌, All, IfOk, OnOk, length};
 ghost use Rattle.std.specs.Option.{option_to_list};
 ghost use Rattle.script_words.specs.Lines.{lines_of};
-ghost use Rattle.script_read.specs.Asked.{CanDo};
+ghost use Rattle.script_orders.specs.Asked.{CanDo};
 ghost use Rattle.script_read.specs.Reading.{Answers, Refuses, number_of_fault, read_lines};
 ghost use Rattle.script_read.specs.State.{first_state};
 
 use crate::reader::Reader;
 use crate::refusal::ScriptRefusal;
-use crate::script::Script;
-use crate::script_command::ScriptCommand;
+use script_orders::{Script, ScriptCommand};
 use script_words::{Fault, ReadError, first_line};
 use std::alloc::{AllocError, Global};
 

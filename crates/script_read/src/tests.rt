@@ -1,16 +1,14 @@
 //! Scripts and what they ask, or their first refusal.
 
-use crate::desk_command::{BrushUse, DeskCommand, Feed, Spot};
-use crate::named::Named;
-use crate::orders::{BrushOrder, FaceOrder};
 use crate::reading::read_script;
 use crate::refusal::ScriptRefusal;
-use crate::script::Script;
-use crate::script_command::ScriptCommand;
 use brush_obj::{BltCall, CopyCall, DrawCall, Hatch, PaintCall};
 use geom_base::{Point, Rect, Size, Target};
 use pix_format::{Format, Rgb};
 use rop_mix::{Mix, Rop4};
+use script_orders::{
+    BrushOrder, BrushUse, DeskCommand, FaceOrder, Feed, Named, Script, ScriptCommand, Spot,
+};
 use std::alloc::{AllocError, Global};
 use std::process::Abort;
 use std::test::Fail;

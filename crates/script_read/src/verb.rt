@@ -3,7 +3,7 @@
 ghost use Rattle.std.specs.Prelude.{◌≡◌, ◌≤◌, IsTrue, length, map, Ok, Err};
 ghost use Rattle.script_read.specs.Commands.{spelling_of, all_verbs, verb_among, form_fits, region_fits, count_fits};
 
-use crate::operation::operation_named;
+use script_names::operation_named;
 use script_words::{Fault, word};
 
 /// A command.

@@ -3,7 +3,7 @@ use Rattle.std.specs.Option.{option_copied}
 use Rattle.brush_obj.specs.Calls.{Operands, new_of_copy}
 use Rattle.brush_obj.specs.declared.copy_call.CopyCall.{CopyCall}
 use Rattle.brush_obj.specs.declared.draw_call.DrawCall.TheVariants.{Copy}
-use Rattle.script_read.specs.Drawing.{zero_point}
+use Rattle.script_orders.specs.Rows.{zero_point}
 use Rattle.desk_run.specs.Desk.{in_clip, translation}
 use Rattle.desk_run.proofs.DeskLemmas.{on_ok_map}
 use Rattle.desk_run.proofs.DrawLemmas.{drawn_none, on_err, reaches, wide_enough}

@@ -1,5 +1,5 @@
 use Rattle.std.proofs.Common.{true, false, [], ◌∷◌, sym, ap, ◌∙◌}
-use Rattle.script_read.specs.declared.named.Named.{Named}
+use Rattle.script_orders.specs.declared.named.Named.{Named}
 use Rattle.desk_run.specs.Reports.{memory}
 use Rattle.desk_run.specs.Texts.{report_text}
 use Rattle.desk_run.proofs.CarryLemmas.{at_err, reported, wanting}

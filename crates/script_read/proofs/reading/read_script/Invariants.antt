@@ -2,7 +2,7 @@ use Rattle.std.proofs.Common.{◌+◌, ◌≤◌, suc, length}
 use Rattle.std.specs.Prelude.{All}
 use Rattle.std.specs.Option.{option_copied, option_map_or}
 use Rattle.script_words.specs.Lines.{lines_of, lines_after}
-use Rattle.script_read.specs.Asked.{CanDo}
+use Rattle.script_orders.specs.Asked.{CanDo}
 use Rattle.script_read.specs.State.{state_of, first_state}
 use Rattle.script_read.specs.Reading.{read_lines}
 use Rattle.script_read.proofs.ScriptLemmas.{ReadTo}

@@ -1,6 +1,6 @@
 use Rattle.std.proofs.Common.{Ok, map, sym, ap, ◌∙◌}
 use Rattle.region.proofs.CanonicalLaws.{operation_is_canonical}
-use Rattle.script_read.specs.Names.{names_of}
+use Rattle.script_names.specs.Names.{names_of}
 use Rattle.script_read.proofs.RegionLemmas.{combined_found, finds}
 use Rattle.script_read.proofs.regions.operated.Goals as goal
 

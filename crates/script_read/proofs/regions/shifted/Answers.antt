@@ -1,6 +1,6 @@
 use Rattle.std.proofs.Common.{Ok, map, sym, ap, ◌∙◌}
 use Rattle.region.proofs.CanonicalLaws.{moved_is_canonical}
-use Rattle.script_read.specs.Names.{names_of}
+use Rattle.script_names.specs.Names.{names_of}
 use Rattle.script_read.proofs.RegionLemmas.{finds, shift_found, shift_out}
 use Rattle.script_read.proofs.regions.shifted.Goals as goal
 

@@ -1,0 +1,55 @@
+//! What a brush is made of.
+
+ghost use Rattle.std.specs.Prelude.{◌≡◌, map};
+ghost use Rattle.script_names.specs.Names.{names_of};
+ghost use Rattle.script_names.specs.Fields.{solid_at, hatched_at, pattern_at, face_at};
+
+use crate::fields::{bitmap, hatch};
+use crate::names::Names;
+use script_orders::FaceOrder;
+use script_words::{Fault, colour, word};
+
+/// solid C
+fn solid(words: &[&[u8]]) -> Result<(FaceOrder, bool), Fault>
+    ensures { result ≡ solid_at (map (λ w. w.now) words.now) }
+{
+    let colour = colour(word(words, 3))?;
+    Ok((FaceOrder::Solid(colour), true))
+}
+
+/// hatch KIND FORE BACK
+fn hatched(words: &[&[u8]]) -> Result<(FaceOrder, bool), Fault>
+    ensures { result ≡ hatched_at (map (λ w. w.now) words.now) }
+{
+    let kind = hatch(word(words, 3))?;
+    let fore = colour(word(words, 4))?;
+    let back = colour(word(words, 5))?;
+    Ok((FaceOrder::Hatch(kind, fore, back), true))
+}
+
+/// pattern BITMAP
+fn pattern(names: &Names<'_>, words: &[&[u8]]) -> Result<(FaceOrder, bool), Fault>
+    ensures { result ≡ pattern_at (names_of names.now) (map (λ w. w.now) words.now) }
+{
+    let bitmap = bitmap(names, word(words, 3))?;
+    let face = FaceOrder::Pattern {
+        bitmap: bitmap.number,
+    };
+    Ok((face, bitmap.size.w <= 64 && bitmap.size.h <= 64))
+}
+
+/// What a brush is made of, by the words from its third on, and whether it isn't too large.
+pub fn face(names: &Names<'_>, words: &[&[u8]]) -> Result<(FaceOrder, bool), Fault>
+    ensures { result ≡ face_at (names_of names.now) (map (λ w. w.now) words.now) }
+{
+    let form = word(words, 2);
+    if form == b"solid".as_slice() {
+        solid(words)
+    } else if form == b"hatch".as_slice() {
+        hatched(words)
+    } else if form == b"pattern".as_slice() {
+        pattern(names, words)
+    } else {
+        Err(Fault::Spelling)
+    }
+}

@@ -1,0 +1,22 @@
+//! What each name of a script stands for, and the words of a line where names count.
+//!
+//! `names_of` of `specs/Names.antt` gives what each word stands for where it is a name in use; `specs/` also says what one word
+//! gives (`Fields`) and what the words of a line's end give (`Tails`): a value, or the first fault.
+#![tactic(auto)]
+
+mod entry;
+mod faces;
+mod fields;
+mod names;
+mod operation;
+mod tails;
+
+pub use entry::{Bitmap, Entry};
+pub use faces::face;
+pub use fields::{
+    bitmap, bitmap_or_none, brush, brush_or_none, clip, format, mix, named, new_name, region, spot,
+    spot_or_none, table,
+};
+pub use names::Names;
+pub use operation::operation_named;
+pub use tails::{colours, rects, values};

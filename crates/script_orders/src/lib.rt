@@ -1,0 +1,21 @@
+//! What a script asks for: its commands in order, and the names of the bitmaps that it makes.
+//!
+//! `Asked` of `specs/Asked.antt` is the whole as a list, and `CanDo` what each command of an accepted script keeps to. A row of
+//! pixel values is drawn on the rectangle that `row_rect` of `specs/Rows.antt` gives.
+#![tactic(auto)]
+
+mod desk_command;
+mod named;
+mod named_region;
+mod orders;
+mod script;
+mod script_command;
+mod values;
+
+pub use desk_command::{BrushUse, DeskCommand, Feed, Spot};
+pub use named::Named;
+pub use named_region::NamedRegion;
+pub use orders::{BrushOrder, CreateOrder, FaceOrder};
+pub use script::Script;
+pub use script_command::ScriptCommand;
+pub use values::Values;

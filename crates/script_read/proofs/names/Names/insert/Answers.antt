@@ -1,6 +1,0 @@
-use Rattle.std.proofs.Common.{Some}
-use Rattle.script_read.proofs.NameLemmas.{names_after}
-use Rattle.script_read.proofs.names.Names.insert.Goals as goal
-
-pub returns-in-Ok-clause-ok : goal.returns-in-Ok-clause-ok
-returns-in-Ok-clause-ok c = names_after c.args.word.now c.args.self.now.map c.insert.new.self (Some c.args.what) c.in-Ok.ensures.updates
