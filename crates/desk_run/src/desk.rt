@@ -16,7 +16,7 @@ ghost use Rattle.script_orders.specs.declared.desk_command.Spot.TheVariants as s
 use crate::canvas::Canvas;
 use crate::draw::{draw_call, draw_row};
 use crate::inputs::Inputs;
-use crate::others::{Others, plain_colour};
+use crate::others::{BLACK, Others, plain_colour};
 use brush_obj::{BrushObj, DrawCall};
 use geom_base::Size;
 use pix_format::{ColourTable, Format, Rgb};
@@ -198,8 +198,6 @@ impl Desk {
         drawn
     }
 }
-
-const BLACK: Rgb = Rgb { r: 0, g: 0, b: 0 };
 
 /// The region of a clip, where there is one.
 fn region_of(clip: &Option<NamedRegion>) -> Option<&Region>

@@ -15,6 +15,7 @@ ghost use Rattle.desk_run.specs.Rows.{CopiesRow};
 use crate::canvas::Canvas;
 use crate::frame::{frame_of, meets};
 use crate::inputs::Inputs;
+use crate::others::BLACK;
 use crate::row::{columns_before, width_of};
 use crate::source::Source;
 use brush_obj::{BrushObj, CopyCall, DrawCall};
@@ -26,8 +27,6 @@ use std::alloc::{AllocError, Global};
 
 /// The first point of a surface.
 const ORIGIN: Point = Point { x: 0, y: 0 };
-
-const BLACK: Rgb = Rgb { r: 0, g: 0, b: 0 };
 
 /// Draws a call on a surface, in the clip.
 ///

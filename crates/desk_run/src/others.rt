@@ -86,12 +86,15 @@ impl<'a> Others<'a> {
     }
 }
 
+/// The colour of what isn't there.
+pub const BLACK: Rgb = Rgb { r: 0, g: 0, b: 0 };
+
 /// The colour of a brush that isn't one that was made.
 pub fn plain_colour(with: BrushUse) -> Rgb
     ensures { result ≡ plain_colour with }
 {
     match with {
         BrushUse::Colour(colour) => colour,
-        _ => Rgb { r: 0, g: 0, b: 0 },
+        _ => BLACK,
     }
 }
