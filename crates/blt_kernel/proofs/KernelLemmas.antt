@@ -1,5 +1,5 @@
 -- What kernels give, as calls say it.
-use Rattle.std.proofs.Common.{◌≡◌, ℕ, ◌/◌, List, refl, sym, ap, ◌∙◌, Option, Some, None, unwrap_or}
+use Rattle.std.proofs.Common.{◌≡◌, ℕ, ◌/◌, Bool, true, List, refl, sym, ap, ◌∙◌, Option, Some, None, unwrap_or}
 use Rattle.geom_base.specs.declared.point.Point.{Point}
 use Rattle.geom_base.specs.declared.rect.Rect.{Rect}
 use Rattle.geom_base.specs.declared.size.Size.{Size}
@@ -19,22 +19,25 @@ use Rattle.brush_obj.specs.Calls.{Operands, new_of_paint}
 use Rattle.brush_obj.specs.declared.face.BrushFace.{BrushFace}
 use Rattle.brush_obj.specs.declared.paint_call.PaintCall.{PaintCall}
 use Rattle.blt_kernel.specs.Drawing.{drawn, ink_at, source_or_zero}
-use Rattle.blt_kernel.specs.Given.{PaintsWith}
+use Rattle.blt_kernel.specs.Given.{InksWith, PaintsWith, pattern_given}
+use Rattle.blt_kernel.specs.declared.ink.Ink.{Ink}
 use Rattle.blt_kernel.specs.declared.drawing.Drawing.{Drawing}
 use Rattle.blt_kernel.proofs.DrawLemmas.{drawn_value-unmasked}
 
 -- a paint gives the mix
-pub paint_gives : (d : Drawing) (call : PaintCall) (o : Operands) (size : Size) (format : Format) (values : List ℕ) (table : List Rgb) (face : BrushFace) (code : ℕ) (p : Point) (was : ℕ) → d.mask ≡ None → d.rop.code / 256 ≡ code →
-    ink_at d.ink format p ≡ brush_value face format table call.origin p → PaintsWith format table face o →
+pub paint_gives : (d : Drawing) (call : PaintCall) (o : Operands) (size : Size) (format : Format) (values : List ℕ) (code : ℕ) (p : Point) (was : ℕ) → d.mask ≡ None → d.rop.code / 256 ≡ code → InksWith true format d.ink call.origin o →
     ((s : ℕ) → new_of_paint call o p was ≡ Some (rop3_of code (brush_value o.brush o.format o.table call.origin p) s was (bits_of o.format))) →
     drawn d size format values p was ≡ new_of_paint call o p was
-paint_gives d call o size format values table face code p was none halves ink with law =
+paint_gives d call o size format values code p was none halves with law =
     let s = source_or_zero d.source size values p in
-    let gives : drawn d size format values p was ≡ Some (rop3_of code (brush_value face format table call.origin p) s was (bits_of format))
-    = ap (λ (v : ℕ). Some v) (drawn_value-unmasked d size format values p was none ∙ rw (halves, ink) refl) in
-    let same : Some (rop3_of code (brush_value o.brush o.format o.table call.origin p) s was (bits_of o.format)) ≡ Some (rop3_of code (brush_value face format table call.origin p) s was (bits_of format))
-    = rw (with.face, with.kept, with.colours) refl in
-    gives ∙ sym same ∙ sym (law s)
+    let brush = brush_value o.brush o.format o.table call.origin p in
+    let gives : drawn d size format values p was ≡ Some (rop3_of code brush s was (bits_of format))
+    = ap (λ (v : ℕ). Some v) (drawn_value-unmasked d size format values p was none ∙ rw (halves, with.value p) refl) in
+    gives ∙ ap (λ (f : Format). Some (rop3_of code brush s was (bits_of f))) (sym with.kept) ∙ sym (law s)
+
+-- an ink that was made for a brush stands for operands with that brush
+pub inks_with : (needed : Bool) (format : Format) (table : List Rgb) (face : BrushFace) (ink : Ink) (origin : Point) (o : Operands) → PaintsWith format table face o → ((p : Point) → ink_at ink format p ≡ pattern_given needed face format table origin p) → InksWith needed format ink origin o
+inks_with needed format table face ink origin o with made = record { kept = with.kept; value = λ p. made p ∙ sym (rw (with.face, with.kept, with.colours) refl) }
 
 -- a box of a surface redrawn by a rule is a rectangle redrawn by another, where these are the same
 pub box_redrawn : (dst : LentSurf) (after : List ℕ) (box rect : Rect) (rule rule' : Change) → box ≡ rect → after ≡ redrawn (size_of dst) (values_of dst) (λ p. is_in p box) rule →

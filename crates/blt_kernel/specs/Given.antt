@@ -16,7 +16,11 @@ use Rattle.surf_obj.specs.declared.view.LentView.{LentView}
 use Rattle.brush_obj.specs.Brush.{brush_value}
 use Rattle.brush_obj.specs.Calls.{Operands}
 use Rattle.brush_obj.specs.declared.face.BrushFace.{BrushFace}
+use Rattle.brush_obj.specs.declared.blt_call.BltCall.{BltCall}
+use Rattle.rop_mix.specs.Needs.{pattern_needed}
+use Rattle.blt_kernel.specs.Drawing.{ink_at}
 use Rattle.blt_kernel.specs.declared.across.Across.{Across}
+use Rattle.blt_kernel.specs.declared.ink.Ink.{Ink}
 use Rattle.blt_kernel.specs.declared.mask.Mask.{Mask}
 use Rattle.blt_kernel.specs.declared.source.Source.{Source}
 
@@ -60,6 +64,21 @@ pub record BltsWith (dst : LentSurf) (src : Option (Bor LentView)) (held : Optio
   pub paints : PaintsWith (format_of dst) table brush o
   pub bits : IsMask mask o.mask
 
+-- the brush's value at a point, where a pattern is needed
+abbrev pub pattern_given : Bool → BrushFace → Format → List Rgb → Point → Point → ℕ
+pattern_given needed face format table origin p = if needed then brush_value face format table origin p else 0
+
+-- the operands that an ink stands for; it is 0 where no pattern is needed
+pub record InksWith (needed : Bool) (format : Format) (ink : Ink) (origin : Point) (o : Operands) : Type 0 where
+  pub kept : o.format ≡ format
+  pub value : (p : Point) → ink_at ink format p ≡ pattern_given needed o.brush o.format o.table origin p
+
+-- those of a blt by an ink
+pub record BltsInked (dst : LentSurf) (src : Option (Bor LentView)) (mask : Option (Bor LentView)) (xlate : Translation) (ink : Ink) (call : BltCall) (o : Operands) : Type 0 where
+  pub copies : CopiesWith dst src call.held xlate o
+  pub inks : InksWith (pattern_needed call.rop.code) (format_of dst) ink call.origin o
+  pub bits : IsMask mask o.mask
+
 -- which points belong to those of a target, where `at` belongs to the corner of a rectangle
 abbrev pub across_from : Rect → Point → Across
 across_from rect at = record { rect = rect; at = at }
@@ -71,7 +90,3 @@ source_given needed lent across xlate = if needed then Some (record { lent = len
 -- the mask that chooses, where one is needed
 abbrev pub mask_given : Bool → Option (Bor LentView) → Across → Option Mask
 mask_given needed lent across = if needed then option_map (λ (v : Bor LentView). record { view = v; across = across }) lent else None
-
--- the brush's value at a point, where a pattern is needed
-abbrev pub pattern_given : Bool → BrushFace → Format → List Rgb → Point → Point → ℕ
-pattern_given needed face format table origin p = if needed then brush_value face format table origin p else 0

@@ -6,21 +6,20 @@ ghost use Rattle.pix_format.specs.Value.{colours_of};
 ghost use Rattle.surf_obj.specs.Lent.{values_of, size_of, format_of, OnlyPixels};
 ghost use Rattle.surf_obj.specs.Surface.{redrawn};
 ghost use Rattle.brush_obj.specs.Calls.{Operands, new_of_blt};
-ghost use Rattle.geom_base.specs.declared.point.Point.{Point};
-ghost use Rattle.rop_mix.specs.Needs.{source_needed, pattern_needed, mask_needed};
-ghost use Rattle.blt_kernel.specs.Drawing.{InkFits, ink_at};
-ghost use Rattle.blt_kernel.specs.Given.{BltsWith, TranslatesFrom, across_from, source_given, mask_given, pattern_given};
+ghost use Rattle.rop_mix.specs.Needs.{source_needed, mask_needed};
+ghost use Rattle.blt_kernel.specs.Drawing.{InkFits};
+ghost use Rattle.blt_kernel.specs.Given.{BltsInked, BltsWith, TranslatesFrom, across_from, source_given, mask_given};
 
 use crate::across::Across;
 use crate::drawing::Drawing;
 use crate::edges::Edges;
-use crate::ink::ink_for;
+use crate::ink::{Ink, ink_for};
 use crate::mask::{lacks_mask, mask_for};
 use crate::source::{lacks_source, source_for};
 use crate::there::draw_there;
 use brush_obj::{BltCall, BrushObj};
 use geom_base::Rect;
-use pix_format::{ColourTable, Format, XlateObj};
+use pix_format::{ColourTable, XlateObj};
 use surf_obj::{LentSurf, LentView};
 
 /// Draws the part of a raster operation in a rectangle of the target. The source is `src`, or the target itself where the call
@@ -44,32 +43,50 @@ pub fn bit_blt_rect(
         values_of dst.new ≡ redrawn (size_of dst.old) (values_of dst.old) (λ p. is_in p rect) (new_of_blt call.now o) }
     ensures only { OnlyPixels dst.old dst.new }
 {
+    let ink = ink_for(call.rop, brush.face(), dst.format(), table, call.origin);
+    bit_blt_inked(dst, rect, call, src, mask, xlate, ink);
+}
+
+/// The same by an ink that was made for the target: for many rectangles of one call it is made once.
+pub fn bit_blt_inked(
+    dst: &mut LentSurf<'_>,
+    rect: Rect,
+    call: &BltCall,
+    src: Option<&LentView<'_>>,
+    mask: Option<&LentView<'_>>,
+    xlate: &XlateObj,
+    ink: Ink<'_>,
+)
+    requires inside { LiesIn rect (size_of dst.old) }
+    requires from { TranslatesFrom src call.now.held dst.old xlate.now }
+    requires to { xlate.now.to ≡ format_of dst.old }
+    requires ink { InkFits ink (format_of dst.old) }
+    ensures values { (o : Operands) → BltsInked dst.old src.entry mask.entry xlate.now ink.entry call.now o →
+        values_of dst.new ≡ redrawn (size_of dst.old) (values_of dst.old) (λ p. is_in p rect) (new_of_blt call.now o) }
+    ensures only { OnlyPixels dst.old dst.new }
+{
     if lacks_source(call.rop, call.held, src) {
         return;
     }
     if lacks_mask(call.rop, mask) {
         return;
     }
-    let drawing = drawing_of(call, dst.format(), src, mask, xlate, table, brush);
+    let drawing = drawing_of(call, src, mask, xlate, ink);
     draw_there(&drawing, dst, &Edges::of(rect));
 }
 
-/// What a raster operation draws with on a target of this format and table.
+/// What a raster operation draws with.
 fn drawing_of<'a>(
     call: &BltCall,
-    format: Format,
     src: Option<&'a LentView<'a>>,
     mask: Option<&'a LentView<'a>>,
     xlate: &'a XlateObj,
-    table: &'a ColourTable,
-    brush: &'a BrushObj,
+    ink: Ink<'a>,
 ) -> Drawing<'a>
-    requires { length table.now ≡ colours_of format }
     ensures rop { result.rop ≡ call.now.rop }
     ensures source { result.source ≡ source_given (source_needed call.now.rop.code) src.entry (across_from call.now.rect call.now.src) xlate.entry }
     ensures mask { result.mask ≡ mask_given (mask_needed call.now.rop.code) mask.entry (across_from call.now.rect call.now.mask) }
-    ensures fits { InkFits result.ink format }
-    ensures ink { (p : Point) → ink_at result.ink format p ≡ pattern_given (pattern_needed call.now.rop.code) brush.now.face format table.now call.now.origin p }
+    ensures ink { result.ink ≡ ink.entry }
 {
     let to_source = Across {
         rect: call.rect,
@@ -83,6 +100,6 @@ fn drawing_of<'a>(
         rop: call.rop,
         source: source_for(call.rop, src, to_source, xlate),
         mask: mask_for(call.rop, mask, to_mask),
-        ink: ink_for(call.rop, brush.face(), format, table, call.origin),
+        ink,
     }
 }

@@ -1,15 +1,16 @@
 //! Paints.
 
-ghost use Rattle.std.specs.Prelude.{◌≡◌, ℕ, List, None, length};
+ghost use Rattle.std.specs.Prelude.{◌≡◌, ℕ, List, None, length, true};
 ghost use Rattle.geom_base.specs.Points.{is_in, LiesIn};
 ghost use Rattle.geom_base.specs.declared.point.Point.{Point};
 ghost use Rattle.geom_base.specs.declared.size.Size.{Size};
 ghost use Rattle.pix_format.specs.Value.{colours_of};
+ghost use Rattle.pix_format.specs.declared.format.Format.{Format};
 ghost use Rattle.surf_obj.specs.Lent.{values_of, size_of, format_of, OnlyPixels};
 ghost use Rattle.surf_obj.specs.Surface.{redrawn};
 ghost use Rattle.brush_obj.specs.Calls.{Operands, new_of_paint};
 ghost use Rattle.blt_kernel.specs.Drawing.{InkFits, drawn};
-ghost use Rattle.blt_kernel.specs.Given.{PaintsWith};
+ghost use Rattle.blt_kernel.specs.Given.{InksWith, PaintsWith};
 
 use crate::drawing::Drawing;
 use crate::edges::Edges;
@@ -17,7 +18,7 @@ use crate::ink::Ink;
 use crate::rows::draw_box;
 use brush_obj::{BrushObj, PaintCall};
 use geom_base::Rect;
-use pix_format::{ColourTable, Format};
+use pix_format::ColourTable;
 use rop_mix::Rop4;
 use surf_obj::LentSurf;
 
@@ -35,28 +36,34 @@ pub fn paint_rect(
         values_of dst.new ≡ redrawn (size_of dst.old) (values_of dst.old) (λ p. is_in p rect) (new_of_paint call.now o) }
     ensures only { OnlyPixels dst.old dst.new }
 {
-    let drawing = drawing_of(call, dst.format(), table, brush);
+    let ink = Ink::of(brush.face(), dst.format(), table, call.origin);
+    paint_inked(dst, rect, call, ink);
+}
+
+/// The same by an ink that was made for the target: for many rectangles of one call it is made once.
+pub fn paint_inked(dst: &mut LentSurf<'_>, rect: Rect, call: &PaintCall, ink: Ink<'_>)
+    requires inside { LiesIn rect (size_of dst.old) }
+    requires ink { InkFits ink (format_of dst.old) }
+    ensures values { (o : Operands) → InksWith true (format_of dst.old) ink.entry call.now.origin o →
+        values_of dst.new ≡ redrawn (size_of dst.old) (values_of dst.old) (λ p. is_in p rect) (new_of_paint call.now o) }
+    ensures only { OnlyPixels dst.old dst.new }
+{
+    let drawing = drawing_of(call, ink);
     draw_box(&drawing, dst, &Edges::of(rect), true);
 }
 
-/// What a paint draws with on a target of this format and table.
-fn drawing_of<'a>(
-    call: &PaintCall,
-    format: Format,
-    table: &'a ColourTable,
-    brush: &'a BrushObj,
-) -> Drawing<'a>
-    requires { length table.now ≡ colours_of format }
+/// What a paint draws with.
+fn drawing_of<'a>(call: &PaintCall, ink: Ink<'a>) -> Drawing<'a>
     ensures source { result.source ≡ None }
     ensures mask { result.mask ≡ None }
-    ensures ink { InkFits result.ink format }
-    ensures values { (o : Operands) (size : Size) (values : List ℕ) (p : Point) (d : ℕ) → PaintsWith format table.now brush.now.face o →
+    ensures ink { result.ink ≡ ink.entry }
+    ensures values { (o : Operands) (size : Size) (format : Format) (values : List ℕ) (p : Point) (d : ℕ) → InksWith true format ink.entry call.now.origin o →
         drawn result size format values p d ≡ new_of_paint call.now o p d }
 {
     Drawing {
         rop: Rop4::of(u16::from(call.rop3()) * 257),
         source: None,
         mask: None,
-        ink: Ink::of(brush.face(), format, table, call.origin),
+        ink,
     }
 }

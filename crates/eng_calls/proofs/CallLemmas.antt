@@ -21,7 +21,10 @@ use Rattle.brush_obj.specs.Brush.{brush_value}
 use Rattle.brush_obj.specs.Calls.{Operands, new_of_blt, combined, operand, mask_value, value_in, point_across}
 use Rattle.brush_obj.specs.declared.blt_call.BltCall.{BltCall}
 use Rattle.brush_obj.specs.declared.face.BrushFace.{BrushFace}
-use Rattle.blt_kernel.specs.Given.{IsShown, BltsWith, CopiesWith, PaintsWith, TranslatesFrom}
+use Rattle.blt_kernel.specs.Drawing.{ink_at}
+use Rattle.blt_kernel.specs.Given.{IsShown, BltsInked, BltsWith, CopiesWith, InksWith, PaintsWith, TranslatesFrom, pattern_given}
+use Rattle.blt_kernel.specs.declared.ink.Ink.{Ink}
+use Rattle.blt_kernel.proofs.KernelLemmas.{inks_with}
 use Rattle.clip_obj.specs.declared.direction.Direction.{Direction}
 use Rattle.clip_obj.specs.Order.{ordered, ComesBefore}
 use Rattle.clip_obj.proofs.OrderLemmas.{pairs_weaker, before_is_apart, ordered_rearranges}
@@ -62,23 +65,28 @@ copies_now (Some view) held old now xlate o size format h = record { source = h.
 copies_now None (Some target) old now xlate o size format h = record { source = source_now old now o.source size h.source; translation = h.translation; format = h.format ∙ sym format }
 copies_now None None old now xlate o size format h = record { source = h.source; translation = h.translation; format = h.format ∙ sym format }
 
-paints_now : (src : Option (Bor LentView)) (held : Option Target) (f g : Format) (table : List Rgb) (brush : BrushFace) (o : Operands) (values : List ℕ) → g ≡ f → PaintsWith f table brush o → PaintsWith g table brush (with_now src held o values)
-paints_now (Some view) held f g table brush o values e h = record { face = h.face; kept = h.kept ∙ sym e; colours = h.colours }
-paints_now None (Some target) f g table brush o values e h = record { face = h.face; kept = h.kept ∙ sym e; colours = h.colours }
-paints_now None None f g table brush o values e h = record { face = h.face; kept = h.kept ∙ sym e; colours = h.colours }
+inks_now : (needed : Bool) (src : Option (Bor LentView)) (held : Option Target) (f g : Format) (ink : Ink) (origin : Point) (o : Operands) (values : List ℕ) → g ≡ f → InksWith needed f ink origin o → InksWith needed g ink origin (with_now src held o values)
+inks_now needed (Some view) held f g ink origin o values e h = record { kept = h.kept ∙ sym e; value = rw e h.value }
+inks_now needed None (Some target) f g ink origin o values e h = record { kept = h.kept ∙ sym e; value = rw e h.value }
+inks_now needed None None f g ink origin o values e h = record { kept = h.kept ∙ sym e; value = rw e h.value }
 
 same_mask : (src : Option (Bor LentView)) (held : Option Target) (o : Operands) (values : List ℕ) → (with_now src held o values).mask ≡ o.mask
 same_mask (Some view) held o values = refl
 same_mask None (Some target) o values = refl
 same_mask None None o values = refl
 
-pub blts_now : (src : Option (Bor LentView)) (held : Option Target) (mask : Option (Bor LentView)) (old now : LentSurf) (xlate : Translation) (table : List Rgb) (brush : BrushFace) (o : Operands) → size_of now ≡ size_of old → format_of now ≡ format_of old →
-    BltsWith old src held mask xlate table brush o → BltsWith now src held mask xlate table brush (with_now src held o (values_of now))
-blts_now src held mask old now xlate table brush o size format h = record {
-  copies = copies_now src held old now xlate o size format h.copies;
-  paints = paints_now src held (format_of old) (format_of now) table brush o (values_of now) format h.paints;
-  bits = rw (same_mask src held o (values_of now)) h.bits;
+pub blts_now : (src : Option (Bor LentView)) (mask : Option (Bor LentView)) (old now : LentSurf) (xlate : Translation) (table : List Rgb) (brush : BrushFace) (ink : Ink) (call : BltCall) (o : Operands) → size_of now ≡ size_of old → format_of now ≡ format_of old →
+    ((p : Point) → ink_at ink (format_of old) p ≡ pattern_given (pattern_needed call.rop.code) brush (format_of old) table call.origin p) → BltsWith old src call.held mask xlate table brush o → BltsInked now src mask xlate ink call (with_now src call.held o (values_of now))
+blts_now src mask old now xlate table brush ink call o size format made h = record {
+  copies = copies_now src call.held old now xlate o size format h.copies;
+  inks = inks_now (pattern_needed call.rop.code) src call.held (format_of old) (format_of now) ink call.origin o (values_of now) format (inks_with (pattern_needed call.rop.code) (format_of old) table brush ink call.origin o h.paints made);
+  bits = rw (same_mask src call.held o (values_of now)) h.bits;
 }
+
+-- the operands of a paint, on every surface of the format
+pub paints_now : (old now : LentSurf) (table : List Rgb) (brush : BrushFace) (ink : Ink) (origin : Point) (o : Operands) → format_of now ≡ format_of old → ((p : Point) → ink_at ink (format_of old) p ≡ pattern_given true brush (format_of old) table origin p) →
+    PaintsWith (format_of old) table brush o → InksWith true (format_of now) ink origin o
+paints_now old now table brush ink origin o format made h = inks_now true None None (format_of old) (format_of now) ink origin o (values_of now) format (inks_with true (format_of old) table brush ink origin o h made)
 
 -- before the call they are the operands that it was given
 shown_same : (size : Size) (values : List ℕ) (s : Option Surface) → IsShown size values s → now_shown s values ≡ s

@@ -11,7 +11,7 @@ ghost use Rattle.eng_calls.specs.Memory.{MayWantMemory};
 
 use crate::draws::{Draws, draw_clip};
 use crate::order::direction_for;
-use blt_kernel::bit_blt_rect;
+use blt_kernel::{Ink, bit_blt_inked, ink_for};
 use brush_obj::{BltCall, BrushObj};
 use clip_obj::ClipObj;
 use geom_base::Rect;
@@ -26,8 +26,7 @@ struct Blitting<'a> {
     src: Option<&'a LentView<'a>>,
     mask: Option<&'a LentView<'a>>,
     xlate: &'a XlateObj,
-    table: &'a ColourTable,
-    brush: &'a BrushObj,
+    ink: Ink<'a>,
 }
 
 impl Draws for Blitting<'_> {
@@ -38,8 +37,8 @@ impl Draws for Blitting<'_> {
     ghost gives = { λ k size format rule. BltGives k size format rule };
 
     fn draw(&self, dst: &mut LentSurf<'_>, rect: &Rect) {
-        bit_blt_rect(
-            dst, *rect, self.call, self.src, self.mask, self.xlate, self.table, self.brush,
+        bit_blt_inked(
+            dst, *rect, self.call, self.src, self.mask, self.xlate, self.ink,
         );
     }
 }
@@ -105,8 +104,7 @@ fn blt_clip(
         src,
         mask,
         xlate,
-        table,
-        brush,
+        ink: ink_for(call.rop, brush.face(), dst.format(), table, call.origin),
     };
     draw_clip(&blitting, dst, clip, direction_for(&call.rect, &call.src));
 }

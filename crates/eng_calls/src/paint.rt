@@ -9,7 +9,7 @@ ghost use Rattle.brush_obj.specs.Calls.{Operands, new_of_paint};
 ghost use Rattle.blt_kernel.specs.Given.{PaintsWith};
 
 use crate::draws::{Draws, draw_clip};
-use blt_kernel::paint_rect;
+use blt_kernel::{Ink, paint_inked};
 use brush_obj::{BrushObj, PaintCall};
 use clip_obj::{ClipObj, Direction};
 use geom_base::Rect;
@@ -20,8 +20,7 @@ use surf_obj::LentSurf;
 #[derive(Drop)]
 struct Painting<'a> {
     call: &'a PaintCall,
-    table: &'a ColourTable,
-    brush: &'a BrushObj,
+    ink: Ink<'a>,
 }
 
 impl Draws for Painting<'_> {
@@ -32,7 +31,7 @@ impl Draws for Painting<'_> {
     ghost gives = { λ k size format rule. PaintGives k size format rule };
 
     fn draw(&self, dst: &mut LentSurf<'_>, rect: &Rect) {
-        paint_rect(dst, *rect, self.call, self.table, self.brush);
+        paint_inked(dst, *rect, self.call, self.ink);
     }
 }
 
@@ -52,6 +51,7 @@ pub fn eng_paint(
     ensures rects { clip.new.rects ≡ clip.old.rects }
     ensures bounds { clip.new.bounds ≡ clip.old.bounds }
 {
-    let painting = Painting { call, table, brush };
+    let ink = Ink::of(brush.face(), dst.format(), table, call.origin);
+    let painting = Painting { call, ink };
     draw_clip(&painting, dst, clip, Direction::Any);
 }

@@ -9,7 +9,7 @@ returns-clause-values c = λ o with.
     c.draw_clip.ensures.values (blt_rule c.args.src c.args.call.now o)
     (λ dst size format. record {
       operands = with_now c.args.src c.args.call.now.held o (values_of dst);
-      with = blts_now c.args.src c.args.call.now.held c.args.mask c.args.dst.now dst c.args.xlate.now c.args.table.now c.args.brush.now.face o size format with;
+      with = blts_now c.args.src c.args.mask c.args.dst.now dst c.args.xlate.now c.args.table.now c.args.brush.now.face c.ink_for.result c.args.call.now o size format (rw (c.format.ensures, c.face.ensures) at c.ink_for.ensures.values) with;
       given = λ p d. refl;
     })
     ∙ whole_step (size_of c.args.dst.now) (blt_rule c.args.src c.args.call.now o) c.direction_for.result c.args.clip.now.rects (values_of c.args.dst.now) (new_of_blt c.args.call.now o) c.draw_clip.ensures.order

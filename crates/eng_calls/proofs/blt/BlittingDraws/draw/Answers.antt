@@ -5,11 +5,11 @@ use Rattle.brush_obj.specs.Calls.{new_of_blt}
 use Rattle.eng_calls.proofs.HeartLemmas.{redrawn_alike}
 use Rattle.eng_calls.proofs.blt.BlittingDraws.draw.Goals as goal
 
-pub bit_blt_rect-requires-clause-to : goal.bit_blt_rect-requires-clause-to
-bit_blt_rect-requires-clause-to c = (c.requires.fits c.args.dst.now refl).1
+pub bit_blt_inked-requires-clause-to : goal.bit_blt_inked-requires-clause-to
+bit_blt_inked-requires-clause-to c = (c.requires.fits c.args.dst.now refl).1
 
 pub returns-clause-values : goal.returns-clause-values
 returns-clause-values c = λ rule gives.
     let g = gives c.args.dst.now refl refl in
-    c.bit_blt_rect.ensures.values g.operands g.with
+    c.bit_blt_inked.ensures.values g.operands g.with
     ∙ redrawn_alike (size_of c.args.dst.now) (values_of c.args.dst.now) (λ p. is_in p c.args.rect.now) (λ p. is_in p c.args.rect.now) (new_of_blt c.args.self.now.call.now g.operands) (rule (values_of c.args.dst.now)) (λ p. refl) (λ p d. sym (g.given p d))

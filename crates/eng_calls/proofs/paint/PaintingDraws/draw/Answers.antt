@@ -8,5 +8,5 @@ use Rattle.eng_calls.proofs.paint.PaintingDraws.draw.Goals as goal
 pub returns-clause-values : goal.returns-clause-values
 returns-clause-values c = λ rule gives.
     let g = gives c.args.dst.now refl refl in
-    c.paint_rect.ensures.values g.operands g.with
+    c.paint_inked.ensures.values g.operands g.with
     ∙ redrawn_alike (size_of c.args.dst.now) (values_of c.args.dst.now) (λ p. is_in p c.args.rect.now) (λ p. is_in p c.args.rect.now) (new_of_paint c.args.self.now.call.now g.operands) (rule (values_of c.args.dst.now)) (λ p. refl) (λ p d. sym (g.given p d))
