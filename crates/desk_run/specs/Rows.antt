@@ -1,4 +1,4 @@
--- A row of values that is copied.
+-- Rows of values: room for the widest, and rows that are copied.
 use Rattle.std.specs.Prelude.{◌≡◌, ℕ, false, List, length, slice_index, EachIndex, Some}
 use Rattle.pix_format.specs.Value.{bits_of}
 use Rattle.pix_format.specs.declared.format.Format.{Format}
@@ -7,6 +7,13 @@ use Rattle.surf_obj.specs.Surface.{Surface}
 use Rattle.pix_format.specs.declared.rgb.Rgb.{Rgb}
 use Rattle.brush_obj.specs.Calls.{Operands, source_alone}
 use Rattle.desk_run.specs.Desk.{row_like, translation}
+
+-- the most pixels of a row, and the most bytes of its line
+abbrev pub widest_row : ℕ
+widest_row = 4096
+
+abbrev pub longest_line : ℕ
+longest_line = 32769
 
 -- what a copy keeps of a value in a surface's own format
 abbrev pub low_bits : Format → ℕ → ℕ

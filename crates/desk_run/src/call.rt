@@ -10,7 +10,7 @@ ghost use Rattle.desk_run.specs.declared.status.Status.TheVariants as status;
 
 use crate::desk::Desk;
 use crate::input::{Input, InputError, read_input};
-use crate::room::{LONGEST, WIDEST};
+use crate::room::{row_line, row_values};
 use crate::run::{Ended, run_all};
 use crate::status::{InputRefusal, Status};
 use crate::text::plain_line;
@@ -48,8 +48,12 @@ fn run_input<K: Sink>(alloc: Global, input: &Input<'_>, sink: &mut K) -> Status
     let Ok(mut desk) = Desk::new(alloc, input.config.size) else {
         return Status::NoMemory;
     };
-    let mut values = [0; WIDEST];
-    let mut line = [0; LONGEST];
+    let Ok(mut values) = row_values(alloc) else {
+        return Status::NoMemory;
+    };
+    let Ok(mut line) = row_line(alloc) else {
+        return Status::NoMemory;
+    };
     let script = &input.script;
     match run_all(
         alloc,

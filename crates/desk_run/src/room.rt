@@ -1,13 +1,26 @@
 //! Room for a row.
 
+ghost use Rattle.std.specs.Prelude.{◌≡◌, IfOk, length};
+ghost use Rattle.desk_run.specs.Rows.{longest_line, widest_row};
+
+use std::alloc::{AllocError, Global};
+
 /// The most pixels of a row.
-pub const WIDEST: usize = 4096;
+const WIDEST: usize = 4096;
 
 /// The most bytes of a row's line: eight digits for each pixel, and the end of the line.
-pub const LONGEST: usize = 8 * WIDEST + 1;
+const LONGEST: usize = 8 * WIDEST + 1;
 
 /// Room for the values of the widest row.
-pub type RowValues = [u32; WIDEST];
+pub fn row_values(alloc: Global) -> Result<Vec<u32>, AllocError>
+    ensures { IfOk result (λ v. length v.items ≡ widest_row) }
+{
+    vec![in alloc; 0u32; WIDEST]
+}
 
 /// Room for its line.
-pub type RowLine = [u8; LONGEST];
+pub fn row_line(alloc: Global) -> Result<Vec<u8>, AllocError>
+    ensures { IfOk result (λ v. length v.items ≡ longest_line) }
+{
+    vec![in alloc; 0u8; LONGEST]
+}

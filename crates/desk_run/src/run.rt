@@ -6,12 +6,12 @@ ghost use Rattle.desk_io.specs.Sinks.{Puts};
 ghost use Rattle.script_orders.specs.Asked.{CanDo, CanDraw};
 ghost use Rattle.script_orders.specs.declared.script_command.ScriptCommand.TheVariants as asked;
 ghost use Rattle.desk_run.specs.Desk.{State, name_of, surface_at, carried};
+ghost use Rattle.desk_run.specs.Rows.{longest_line, widest_row};
 ghost use Rattle.desk_run.specs.Texts.{dump_text, sum_text};
 ghost use Rattle.desk_run.specs.Run.{Entry, GaveAs, MadeAs, WrittenAs, Ran, run};
 
 use crate::desk::Desk;
 use crate::dump::put_dump;
-use crate::room::{RowLine, RowValues};
 use crate::sum::put_sum;
 use crate::text::{end_line, wanting_line};
 use desk_io::{Sink, WriteFault, write_all};
@@ -68,9 +68,11 @@ fn dump<K: Sink>(
     script: &Script<'_>,
     desk: &Desk,
     name: Named,
-    values: &mut RowValues,
-    line: &mut RowLine,
+    values: &mut [u32],
+    line: &mut [u8],
 ) -> Result<(), WriteFault>
+    requires values { length values.old ≡ widest_row }
+    requires line { length line.old ≡ longest_line }
     ensures { Puts (option_map_or (dump_text script.now.names name) (surface_at desk.now name) []) (K.written sink.old) (K.written sink.new) (K.faults sink.old) (K.faults sink.new) (is_err result) }
 {
     let canvas = match desk.surface(name) {
@@ -95,8 +97,9 @@ fn sum<K: Sink>(
     script: &Script<'_>,
     desk: &Desk,
     name: Named,
-    values: &mut RowValues,
+    values: &mut [u32],
 ) -> Result<(), WriteFault>
+    requires { length values.old ≡ widest_row }
     ensures { Puts (option_map_or (sum_text script.now.names name) (surface_at desk.now name) []) (K.written sink.old) (K.written sink.new) (K.faults sink.old) (K.faults sink.new) (is_err result) }
 {
     let canvas = match desk.surface(name) {
@@ -146,11 +149,13 @@ fn carry_out<K: Sink>(
     script: &Script<'_>,
     number: u64,
     command: &ScriptCommand,
-    values: &mut RowValues,
-    line: &mut RowLine,
+    values: &mut [u32],
+    line: &mut [u8],
     sink: &mut K,
 ) -> Given
-    requires { CanDo command.now }
+    requires can { CanDo command.now }
+    requires values { length values.old ≡ widest_row }
+    requires line { length line.old ≡ longest_line }
     ensures { GaveAs script.now.names number command.now desk.old desk.new (K.written sink.old) (K.written sink.new) (K.faults sink.old) (K.faults sink.new) result }
 {
     match command {
@@ -174,12 +179,14 @@ pub fn run_all<K: Sink>(
     desk: &mut Desk,
     script: &Script<'_>,
     commands: &[ScriptCommand],
-    values: &mut RowValues,
-    line: &mut RowLine,
+    values: &mut [u32],
+    line: &mut [u8],
     sink: &mut K,
 ) -> Ended
     requires can { All CanDo commands.now }
     requires few { length commands.now ≤ 100000 }
+    requires values { length values.old ≡ widest_row }
+    requires line { length line.old ≡ longest_line }
     ensures { (h : List Entry) × Ran script.now.names commands.now desk.old (K.written sink.old) (K.written sink.new) (K.faults sink.old) (K.faults sink.new) result h × (desk.new ≡ run h desk.old) }
 {
     let mut whole = true;

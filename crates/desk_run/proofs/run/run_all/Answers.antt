@@ -20,6 +20,8 @@ loop-i-preserved g c =
     let i = c.loop-i.i in
     let more = so_far_more c.args.script.now.names cs c.args.desk.now c.loop-i.desk c.carry_out.new.desk _ _ _ _ _ _ i c.loop-i.whole h c.index-commands-i.result c.loop-i-test.true c.index-commands-i.is so in
     record {
+      values = c.carry_out.auto.values ∙ c.loop-i.invariant.values;
+      line = c.carry_out.auto.line ∙ c.loop-i.invariant.line;
       so_far = elim c.match-carry_out.branch [
         | in-Whole w ↦ (h ++ record { command = c.index-commands-i.result; told = [] } ∷ [], more [] (i + 1) c.match-carry_out.whole refl (and_true c.loop-i.whole ∙ sym w.whole-is) w.in-Whole.ensures)
         | in-Wanting w ↦ (h ++ record { command = c.index-commands-i.result; told = w.in-Wanting.ensures.0 ∷ [] } ∷ [], more (w.in-Wanting.ensures.0 ∷ []) (i + 1) c.match-carry_out.whole refl (and_false c.loop-i.whole ∙ sym w.whole-is) w.in-Wanting.ensures.1)

@@ -1,9 +1,12 @@
-use Rattle.std.proofs.Common.{List}
+use Rattle.std.proofs.Common.{◌≡◌, length, List}
+use Rattle.desk_run.specs.Rows.{longest_line, widest_row}
 use Rattle.desk_run.specs.Run.{Entry}
 use Rattle.desk_run.proofs.HistoryLemmas.{SoFar}
 use Rattle.desk_run.proofs.run.run_all.Given as goal
 
 abbrev pub invariant-loop-i : goal.invariant-loop-i
 invariant-loop-i g l = record {
+  values : length l.values ≡ widest_row;
+  line : length l.line ≡ longest_line;
   so_far : (h : List Entry) × SoFar l.script.names l.commands l.fn.desk l.desk (g.K.Sink.written l.fn.sink) (g.K.Sink.written l.sink) (g.K.Sink.faults l.fn.sink) (g.K.Sink.faults l.sink) l.i l.whole h;
 }
