@@ -224,7 +224,7 @@ fn draw_beside(
     let clip = region_of(&command.clip);
     if let Feed::Row(values) = &command.source {
         if let DrawCall::Copy(call) = &command.call {
-            return draw_row(alloc, target, call, values.items(), command.back, clip);
+            return draw_row(alloc, target, call, values.items(), clip);
         }
         return Ok(());
     }

@@ -80,7 +80,7 @@ fn draw_clipped(
     }
 }
 
-/// Copies a row of values in the surface's own format to the rectangle of a call, in the clip.
+/// Copies a row of values in the surface's own format to the rectangle of a call, in the clip; no colour counts.
 ///
 /// # Errors
 ///
@@ -90,7 +90,6 @@ pub fn draw_row(
     target: &mut Canvas,
     call: &CopyCall,
     values: &[u32],
-    back: Rgb,
     clip: Option<&Region>,
 ) -> Result<(), AllocError>
     requires { RowIsCopied (Row values.now) (Copy call.now) }
@@ -116,7 +115,7 @@ pub fn draw_row(
         source: Source::Other(&row),
         mask: None,
         brush: &no_brush,
-        back,
+        back: BLACK,
         clip,
     };
     draw_call(alloc, target, &DrawCall::Copy(part), &inputs)

@@ -3,6 +3,7 @@ use Rattle.std.specs.Option.{option_copied}
 use Rattle.brush_obj.specs.Calls.{Operands, new_of_copy}
 use Rattle.brush_obj.specs.declared.copy_call.CopyCall.{CopyCall}
 use Rattle.brush_obj.specs.declared.draw_call.DrawCall.TheVariants.{Copy}
+use Rattle.pix_format.specs.Value.{black}
 use Rattle.script_orders.specs.Rows.{zero_point}
 use Rattle.desk_run.specs.Desk.{in_clip, translation}
 use Rattle.desk_run.proofs.DeskLemmas.{on_ok_map}
@@ -36,10 +37,10 @@ returns-clause-ok c =
     let t = c.args.target.now in
     let m = c.meets.ensures.some c.if-not-meets.false in
     let part : CopyCall = record { target = c.args.call.now.target; rect = c.frame_of-frame.result; held = None; src = zero_point } in
-    let other : Operands = record { source = Some c.in_ok-row.row; mask = None; xlate = translation c.in_ok-row.row t c.args.back; brush = c.solid-no_brush.result.face; format = t.format; table = t.table } in
+    let other : Operands = record { source = Some c.in_ok-row.row; mask = None; xlate = translation c.in_ok-row.row t black; brush = c.solid-no_brush.result.face; format = t.format; table = t.table } in
     on_ok_map c.draw_call.result c.draw_call.ensures.ok
     (λ drew o given. drew ∙ row_copied t c.args.call.now c.args.values.now c.frame_of-frame.result c.columns_before-from.result c.width_of-len.result c.requires.1 c.requires.0 (c.frame_of-frame.ensures.within m.point m.inside) c.columns_before-from.ensures.columns c.width_of-len.ensures.columns
-    c.in_ok-row.row c.in_ok-row.ensures part refl refl other o c.args.back refl refl refl given (in_clip (option_copied c.args.clip)) (rw (c.size.ensures.size) at c.size.ensures.places) (rw (c.size.ensures.size) at c.frame_of-frame.ensures.points))
+    c.in_ok-row.row c.in_ok-row.ensures part refl refl other o black refl refl refl given (in_clip (option_copied c.args.clip)) (rw (c.size.ensures.size) at c.size.ensures.places) (rw (c.size.ensures.size) at c.frame_of-frame.ensures.points))
 
 pub returns-clause-meets : goal.returns-clause-meets
 returns-clause-meets c =
