@@ -13,7 +13,7 @@ import sys
 import tempfile
 from pathlib import Path
 
-from asking import CONFIG, oracles_answer
+from asking import CONFIG, oracles_answer, told
 from random_inputs import BUILT
 
 TOP = Path(__file__).resolve().parent.parent
@@ -128,11 +128,7 @@ def main():
     if asked.oracle:
         drawn = list(random_failures(asked.gdi, asked.oracle, asked.seed, asked.count))
         found += drawn + ["too few refused inputs"] * (len(drawn) < asked.count)
-    bad = [said for said in found if said]
-    for said in bad[:10]:
-        print(f"explained: {said}")
-    print(f"explained: {len(found) - len(bad)} passed, {len(bad)} failed")
-    return 1 if bad else 0
+    return told("explained", len(found), [said for said in found if said], shown=10)
 
 
 if __name__ == "__main__":

@@ -9,7 +9,7 @@ import sys
 from pathlib import Path
 from textwrap import dedent
 
-from asking import CONFIG, programs_answer
+from asking import CONFIG, programs_answer, told
 
 GUIDE = Path(__file__).resolve().parent.parent / "docs" / "SCRIPT.md"
 INDENTED = r"((?:    .*\n)+)"
@@ -28,10 +28,7 @@ def main():
     gdi = parser.parse_args().gdi
     found = list(examples())
     bad = [text for text, output in found if programs_answer(gdi, text.encode()) != (output.encode(), 0)]
-    for text in bad:
-        print(f"guide: the example {text.removeprefix(CONFIG)[:60]!r} differs")
-    print(f"guide: {len(found) - len(bad)} passed, {len(bad)} failed")
-    return 1 if bad or not found else 0
+    return told("guide", len(found), [f"the example {text.removeprefix(CONFIG)[:60]!r} differs" for text in bad])
 
 
 if __name__ == "__main__":

@@ -11,6 +11,8 @@ import tempfile
 import zlib
 from pathlib import Path
 
+from asking import told
+
 TOP = Path(__file__).resolve().parent.parent
 VIEW = TOP / "tools" / "view.py"
 CONFIG = '[[screen]]\nkind = "linear"\nx = 0\ny = 0\nwidth = 2\nheight = 1\nformat = "8"\n%%\n'
@@ -110,11 +112,7 @@ def failures():
 
 def main():
     found = list(failures())
-    bad = [name for name in found if name]
-    for name in bad:
-        print(f"pictures: {name} differs")
-    print(f"pictures: {len(found) - len(bad)} passed, {len(bad)} failed")
-    return 1 if bad else 0
+    return told("pictures", len(found), [f"{name} differs" for name in found if name])
 
 
 if __name__ == "__main__":

@@ -4,9 +4,10 @@
     rows.py --gdi PATH --oracle DIR
 """
 import argparse
-import subprocess
 import sys
 from pathlib import Path
+
+from asking import programs_answer, told
 
 HERE = Path(__file__).resolve().parent
 
@@ -19,10 +20,8 @@ def wanted_rows():
 def differs(gdi, row):
     words = row.with_suffix(".args")
     words = words.read_text().split() if words.exists() else ["run"]
-    with open(row.with_suffix(".input"), "rb") as script:
-        run = subprocess.run([gdi, *words], stdin=script, capture_output=True, timeout=60)
-    status = int(row.with_suffix(".status").read_text())
-    return run.stdout != row.with_suffix(".expected").read_bytes() or run.returncode != status
+    due = row.with_suffix(".expected").read_bytes(), int(row.with_suffix(".status").read_text())
+    return programs_answer(gdi, row.with_suffix(".input").read_bytes(), words) != due
 
 
 def main():
@@ -31,11 +30,7 @@ def main():
     parser.add_argument("--oracle", required=True, type=Path)
     asked = parser.parse_args()
     names = wanted_rows()
-    bad = [name for name in names if differs(asked.gdi.resolve(), asked.oracle / "rows" / name)]
-    for name in bad:
-        print(f"rows: {name} differs")
-    print(f"rows: {len(names) - len(bad)} passed, {len(bad)} failed")
-    return 1 if bad or not names else 0
+    return told("rows", len(names), [f"{name} differs" for name in names if differs(asked.gdi, asked.oracle / "rows" / name)])
 
 
 if __name__ == "__main__":
