@@ -1,10 +1,10 @@
 pub mod JoinLemmas
-pub mod AcrossLemmas
+pub mod ShiftLemmas
 pub mod DrawLemmas
 pub mod OrderLemmas
 pub mod PartLemmas
 pub mod KernelLemmas
 pub mod SpanLemmas
-pub mod ThereLemmas
+pub mod ReadableLemmas
 pub mod BltLemmas
 pub mod CopyLemmas

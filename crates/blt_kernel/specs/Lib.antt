@@ -1,8 +1,9 @@
-pub mod Across
-pub mod Drawing
-pub mod Order
-pub mod There
-pub mod Given
-pub mod Boxes
-pub mod Fills
-pub mod Ways
+pub mod Handed
+pub mod InnerShift
+pub mod InnerBoxes
+pub mod InnerDrawing
+pub mod InnerFills
+pub mod InnerHanded
+pub mod InnerOrder
+pub mod InnerReadable
+pub mod InnerWays

@@ -1,25 +1,27 @@
 //! Raster operations.
 
-ghost use Rattle.std.specs.Prelude.{◌≡◌, ◌≤◌, ℕ, length};
+ghost use Rattle.std.specs.Prelude.{◌≡◌, IsTrue, length};
 ghost use Rattle.geom_base.specs.Points.{is_in, LiesIn};
 ghost use Rattle.pix_format.specs.Value.{colours_of};
 ghost use Rattle.surf_obj.specs.Lent.{values_of, size_of, format_of, OnlyPixels};
-ghost use Rattle.surf_obj.specs.Surface.{redrawn};
-ghost use Rattle.brush_obj.specs.Calls.{Operands, new_of_blt};
-ghost use Rattle.rop_mix.specs.Needs.{source_needed, mask_needed};
-ghost use Rattle.blt_kernel.specs.Drawing.{InkFits};
-ghost use Rattle.blt_kernel.specs.Given.{BltsInked, BltsWith, TranslatesFrom, across_from, source_given, mask_given};
+ghost use Rattle.geom_base.specs.Step.{redrawn};
+ghost use Rattle.brush_obj.specs.Brush.{tiled};
+ghost use Rattle.brush_obj.specs.Calls.{HoldsOwn, blt_operands, new_of_blt, shown};
+ghost use Rattle.rop_mix.specs.Needs.{pattern_needed};
+ghost use Rattle.brush_obj.specs.Ink.{InkFits, ink_at};
+ghost use Rattle.blt_kernel.specs.Handed.{TranslatesFrom, mask_of, source_of};
+ghost use Rattle.blt_kernel.specs.InnerHanded.{drawing_given, ink_given};
 
-use crate::across::Across;
 use crate::drawing::Drawing;
 use crate::edges::Edges;
-use crate::ink::{Ink, ink_for};
 use crate::mask::{lacks_mask, mask_for};
+use crate::readable::draw_readable;
+use crate::shift::Shift;
 use crate::source::{lacks_source, source_for};
-use crate::there::draw_there;
-use brush_obj::{BltCall, BrushObj};
+use brush_obj::{BltCall, BrushObj, Ink, MOST_VALUES};
 use geom_base::Rect;
 use pix_format::{ColourTable, XlateObj};
+use rop_mix::{Rop4, needs_pattern};
 use surf_obj::{LentSurf, LentView};
 
 /// Draws the part of a raster operation in a rectangle of the target. The source is `src`, or the target itself where the call
@@ -36,15 +38,27 @@ pub fn bit_blt_rect(
     brush: &BrushObj,
 )
     requires inside { LiesIn rect (size_of dst.old) }
-    requires from { TranslatesFrom src call.now.held dst.old xlate.now }
+    requires held { HoldsOwn call.now.held call.now.target }
+    requires from { TranslatesFrom src call.now.held (format_of dst.old) xlate.now }
     requires to { xlate.now.to ≡ format_of dst.old }
     requires table { length table.now ≡ colours_of (format_of dst.old) }
-    ensures values { (o : Operands) → BltsWith dst.old src.entry call.now.held mask.entry xlate.now table.now brush.now.face o →
+    ensures values { let source = source_of src.entry call.now.held (shown (size_of dst.old) (values_of dst.old)) in
+        let o = blt_operands source (mask_of mask.entry) xlate.now (tiled brush.now.face (format_of dst.old) table.now) (format_of dst.old) in
         values_of dst.new ≡ redrawn (size_of dst.old) (values_of dst.old) (λ p. is_in p rect) (new_of_blt call.now o) }
     ensures only { OnlyPixels dst.old dst.new }
 {
-    let ink = ink_for(call.rop, brush.face(), dst.format(), table, call.origin);
-    bit_blt_inked(dst, rect, call, src, mask, xlate, ink);
+    if !needs_pattern(call.rop) {
+        bit_blt_inked(dst, rect, call, src, mask, xlate, Ink::Solid(0));
+        return;
+    }
+    match Ink::ready(brush.face(), dst.format(), table) {
+        Some(ink) => bit_blt_inked(dst, rect, call, src, mask, xlate, ink),
+        None => {
+            let mut room = [0; MOST_VALUES];
+            let ink = Ink::made(brush.face(), dst.format(), table, &mut room);
+            bit_blt_inked(dst, rect, call, src, mask, xlate, ink);
+        }
+    }
 }
 
 /// The same by an ink that was made for the target: for many rectangles of one call it is made once.
@@ -58,10 +72,12 @@ pub fn bit_blt_inked(
     ink: Ink<'_>,
 )
     requires inside { LiesIn rect (size_of dst.old) }
-    requires from { TranslatesFrom src call.now.held dst.old xlate.now }
+    requires held { HoldsOwn call.now.held call.now.target }
+    requires from { TranslatesFrom src call.now.held (format_of dst.old) xlate.now }
     requires to { xlate.now.to ≡ format_of dst.old }
-    requires ink { InkFits ink (format_of dst.old) }
-    ensures values { (o : Operands) → BltsInked dst.old src.entry mask.entry xlate.now ink.entry call.now o →
+    requires ink { IsTrue (pattern_needed call.now.rop.code) → InkFits ink (format_of dst.old) }
+    ensures values { let source = source_of src.entry call.now.held (shown (size_of dst.old) (values_of dst.old)) in
+        let o = blt_operands source (mask_of mask.entry) xlate.now (ink_at ink.entry) (format_of dst.old) in
         values_of dst.new ≡ redrawn (size_of dst.old) (values_of dst.old) (λ p. is_in p rect) (new_of_blt call.now o) }
     ensures only { OnlyPixels dst.old dst.new }
 {
@@ -71,28 +87,35 @@ pub fn bit_blt_inked(
     if lacks_mask(call.rop, mask) {
         return;
     }
-    let drawing = drawing_of(call, src, mask, xlate, ink);
-    draw_there(&drawing, dst, &Edges::of(rect));
+    let drawing = blt_drawing(call, src, mask, xlate, ink);
+    draw_readable(&drawing, dst, &Edges::of(rect));
+}
+
+/// An ink as a raster operation draws with it, which is the value 0 where it needs no pattern.
+fn needed_ink(rop: Rop4, ink: Ink<'_>) -> Ink<'_>
+    ensures { result ≡ ink_given (pattern_needed rop.code) ink.entry }
+{
+    if needs_pattern(rop) {
+        return ink;
+    }
+    Ink::Solid(0)
 }
 
 /// What a raster operation draws with.
-fn drawing_of<'a>(
+fn blt_drawing<'a>(
     call: &BltCall,
     src: Option<&'a LentView<'a>>,
     mask: Option<&'a LentView<'a>>,
     xlate: &'a XlateObj,
     ink: Ink<'a>,
 ) -> Drawing<'a>
-    ensures rop { result.rop ≡ call.now.rop }
-    ensures source { result.source ≡ source_given (source_needed call.now.rop.code) src.entry (across_from call.now.rect call.now.src) xlate.entry }
-    ensures mask { result.mask ≡ mask_given (mask_needed call.now.rop.code) mask.entry (across_from call.now.rect call.now.mask) }
-    ensures ink { result.ink ≡ ink.entry }
+    ensures { result ≡ drawing_given call.now src.entry mask.entry xlate.entry ink.entry }
 {
-    let to_source = Across {
+    let to_source = Shift {
         rect: call.rect,
         at: call.src,
     };
-    let to_mask = Across {
+    let to_mask = Shift {
         rect: call.rect,
         at: call.mask,
     };
@@ -100,6 +123,7 @@ fn drawing_of<'a>(
         rop: call.rop,
         source: source_for(call.rop, src, to_source, xlate),
         mask: mask_for(call.rop, mask, to_mask),
-        ink,
+        ink: needed_ink(call.rop, ink),
+        origin: call.origin,
     }
 }

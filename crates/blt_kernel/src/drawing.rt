@@ -2,16 +2,17 @@
 
 ghost use Rattle.std.specs.Prelude.{◌≡◌, ◌≤◌, ◌+◌, IsTrue, IfSome, length};
 ghost use Rattle.surf_obj.specs.Lent.{size_of, format_of};
-ghost use Rattle.blt_kernel.specs.Fills.{FillsWith, takes_pattern_alone};
-ghost use Rattle.blt_kernel.specs.Order.{KeepsSource};
-ghost use Rattle.blt_kernel.specs.Ways.{IsWayOf};
-ghost use Rattle.blt_kernel.specs.Drawing.{CanDraw, IsDrawn, GivesRun};
+ghost use Rattle.blt_kernel.specs.InnerFills.{FillsWith, takes_pattern_alone};
+ghost use Rattle.blt_kernel.specs.InnerOrder.{KeepsSource};
+ghost use Rattle.blt_kernel.specs.InnerWays.{IsWayOf};
+ghost use Rattle.blt_kernel.specs.InnerDrawing.{CanDraw, IsDrawn, GivesRun};
 
 use crate::edges::Edges;
-use crate::ink::Ink;
 use crate::mask::Mask;
-use crate::source::{Source, read_source};
+use crate::source::{SourcePixels, read_source};
 use crate::way::Way;
+use brush_obj::Ink;
+use geom_base::Point;
 use pix_format::Format;
 use rop_mix::{Rop4, apply_fill, apply_masked, apply_row, apply_solid, rop3};
 use surf_obj::LentSurf;
@@ -20,9 +21,11 @@ use surf_obj::LentSurf;
 #[derive(Clone, Copy)]
 pub struct Drawing<'a> {
     pub rop: Rop4,
-    pub source: Option<Source<'a>>,
+    pub source: Option<SourcePixels<'a>>,
     pub mask: Option<Mask<'a>>,
     pub ink: Ink<'a>,
+    /// The point where the ink's square begins.
+    pub origin: Point,
 }
 
 impl<'a> Drawing<'a> {
@@ -46,7 +49,7 @@ impl<'a> Drawing<'a> {
         let mut values = [0; 512];
         let values = &mut values[..len];
         self.combine(dst, x, y, values);
-        dst.write_run(x, y, values);
+        dst.write_row(Point::at(x, y), values);
     }
 
     /// How it goes along the rows of a box.
@@ -60,7 +63,7 @@ impl<'a> Drawing<'a> {
         }
         match (self.mask, self.source) {
             (None, Some(source))
-                if self.rop.clear_code() == 0xcc && source.has_its_bytes(dst, edges) => {
+                if self.rop.code_where_clear() == 0xcc && source.has_target_bytes(dst, edges) => {
                 Way::Copy(source)
             }
             _ => Way::Combine,
@@ -71,7 +74,7 @@ impl<'a> Drawing<'a> {
     pub fn fill_value(&self, format: Format) -> Option<u32>
         ensures { IfSome result (FillsWith self.now format) }
     {
-        let code = self.rop.clear_code();
+        let code = self.rop.code_where_clear();
         match (self.mask, self.ink) {
             (None, Ink::Solid(pattern)) if takes_pattern_alone(code) => {
                 Some(rop3(code, pattern, 0, 0, format.bits()))
@@ -110,14 +113,14 @@ impl<'a> Drawing<'a> {
         let format = dst.format();
         let mut pattern = [0; 512];
         let pattern = &mut pattern[..len];
-        self.ink.fill_run(format, x, y, pattern);
+        self.ink.fill_row(self.origin, Point::at(x, y), pattern);
         let mut source = [0; 512];
         let source = &mut source[..len];
         read_source(&self.source, dst, x, y, source);
         let mut bits = [0; 512];
         let bits = &mut bits[..len];
         mask.read_run(x, y, bits);
-        dst.read_run(x, y, values);
+        dst.read_row(Point::at(x, y), values);
         apply_masked(self.rop, bits, pattern, source, values, format.bits());
     }
 
@@ -142,16 +145,16 @@ impl<'a> Drawing<'a> {
         requires able { CanDraw self.now (size_of dst.now) (format_of dst.now) x y (x + length values.old) (y + 1) }
         ensures { GivesRun self.now dst.now x y values.new }
     {
-        let code = self.rop.clear_code();
+        let code = self.rop.code_where_clear();
         let format = dst.format();
-        dst.read_run(x, y, values);
+        dst.read_row(Point::at(x, y), values);
         if let Ink::Solid(value) = self.ink {
             apply_fill(code, value, values, format.bits());
             return;
         }
         let mut pattern = [0; 512];
         let pattern = &mut pattern[..values.len()];
-        self.ink.fill_run(format, x, y, pattern);
+        self.ink.fill_row(self.origin, Point::at(x, y), pattern);
         let mut source = [0; 512];
         let source = &mut source[..values.len()];
         read_source(&self.source, dst, x, y, source);
@@ -161,7 +164,7 @@ impl<'a> Drawing<'a> {
     /// The new values of a run by one code that needs a source.
     fn combine_source(
         &self,
-        source: &Source<'_>,
+        source: &SourcePixels<'_>,
         dst: &LentSurf<'_>,
         x: u32,
         y: u32,
@@ -173,7 +176,7 @@ impl<'a> Drawing<'a> {
         requires able { CanDraw self.now (size_of dst.now) (format_of dst.now) x y (x + length values.old) (y + 1) }
         ensures { GivesRun self.now dst.now x y values.new }
     {
-        let code = self.rop.clear_code();
+        let code = self.rop.code_where_clear();
         if code == 0xcc {
             source.read_run(dst, x, y, values);
             return;
@@ -183,14 +186,14 @@ impl<'a> Drawing<'a> {
         let mut own = [0; 512];
         let own = &mut own[..len];
         source.read_run(dst, x, y, own);
-        dst.read_run(x, y, values);
+        dst.read_row(Point::at(x, y), values);
         if let Ink::Solid(value) = self.ink {
             apply_solid(code, value, own, values, format.bits());
             return;
         }
         let mut pattern = [0; 512];
         let pattern = &mut pattern[..len];
-        self.ink.fill_run(format, x, y, pattern);
+        self.ink.fill_row(self.origin, Point::at(x, y), pattern);
         apply_row(code, pattern, own, values, format.bits());
     }
 }

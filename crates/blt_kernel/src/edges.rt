@@ -2,7 +2,7 @@
 
 ghost use Rattle.std.specs.Prelude.{◌≡◌, ◌↔◌, ◌≤ℤ◌, pos, IsTrue};
 ghost use Rattle.geom_base.specs.Points.{box_of};
-ghost use Rattle.blt_kernel.specs.Boxes.{HasPoint};
+ghost use Rattle.blt_kernel.specs.InnerBoxes.{HasPoint};
 
 use geom_base::Rect;
 

@@ -5,25 +5,23 @@
 //! rectangle to the points for which source and mask are there, and draw it row by row, a row in runs of at most 512 pixels, or as
 //! whole bytes where all pixels get one value or those of a source that is kept alike. Where
 //! the target itself is the source, rows and runs go in the order in which no point is read after it was drawn. None takes memory.
-//! What a brush gives on a target is an `Ink`, which is made once a call.
+//! What a brush gives on a target is an `Ink` of `brush_obj`, which is made once a call.
 #![tactic(auto)]
 
-mod across;
 mod blt;
 mod copy;
 mod drawing;
 mod edges;
-mod ink;
 mod mask;
 mod paint;
+mod readable;
 mod rows;
+mod shift;
 mod source;
-mod there;
 mod way;
 
 pub use blt::{bit_blt_inked, bit_blt_rect};
 pub use copy::copy_rect;
-pub use ink::{Ink, ink_for};
 pub use paint::{paint_inked, paint_rect};
 
 #[cfg(test)]

@@ -1,22 +1,22 @@
 //! Paints.
 
-ghost use Rattle.std.specs.Prelude.{◌≡◌, ℕ, List, None, length, true};
+ghost use Rattle.std.specs.Prelude.{◌≡◌, ℕ, List, None, length};
 ghost use Rattle.geom_base.specs.Points.{is_in, LiesIn};
 ghost use Rattle.geom_base.specs.declared.point.Point.{Point};
 ghost use Rattle.geom_base.specs.declared.size.Size.{Size};
 ghost use Rattle.pix_format.specs.Value.{colours_of};
 ghost use Rattle.pix_format.specs.declared.format.Format.{Format};
 ghost use Rattle.surf_obj.specs.Lent.{values_of, size_of, format_of, OnlyPixels};
-ghost use Rattle.surf_obj.specs.Surface.{redrawn};
-ghost use Rattle.brush_obj.specs.Calls.{Operands, new_of_paint};
-ghost use Rattle.blt_kernel.specs.Drawing.{InkFits, drawn};
-ghost use Rattle.blt_kernel.specs.Given.{InksWith, PaintsWith};
+ghost use Rattle.geom_base.specs.Step.{redrawn};
+ghost use Rattle.brush_obj.specs.Brush.{tiled};
+ghost use Rattle.brush_obj.specs.Calls.{new_of_paint, paint_operands};
+ghost use Rattle.blt_kernel.specs.InnerDrawing.{drawn};
+ghost use Rattle.brush_obj.specs.Ink.{InkFits, ink_at};
 
 use crate::drawing::Drawing;
 use crate::edges::Edges;
-use crate::ink::Ink;
 use crate::rows::draw_box;
-use brush_obj::{BrushObj, PaintCall};
+use brush_obj::{BrushObj, Ink, MOST_VALUES, PaintCall};
 use geom_base::Rect;
 use pix_format::ColourTable;
 use rop_mix::Rop4;
@@ -32,38 +32,45 @@ pub fn paint_rect(
 )
     requires inside { LiesIn rect (size_of dst.old) }
     requires table { length table.now ≡ colours_of (format_of dst.old) }
-    ensures values { (o : Operands) → PaintsWith (format_of dst.old) table.now brush.now.face o →
+    ensures values { let o = paint_operands (tiled brush.now.face (format_of dst.old) table.now) (format_of dst.old) in
         values_of dst.new ≡ redrawn (size_of dst.old) (values_of dst.old) (λ p. is_in p rect) (new_of_paint call.now o) }
     ensures only { OnlyPixels dst.old dst.new }
 {
-    let ink = Ink::of(brush.face(), dst.format(), table, call.origin);
-    paint_inked(dst, rect, call, ink);
+    match Ink::ready(brush.face(), dst.format(), table) {
+        Some(ink) => paint_inked(dst, rect, call, ink),
+        None => {
+            let mut room = [0; MOST_VALUES];
+            let ink = Ink::made(brush.face(), dst.format(), table, &mut room);
+            paint_inked(dst, rect, call, ink);
+        }
+    }
 }
 
 /// The same by an ink that was made for the target: for many rectangles of one call it is made once.
 pub fn paint_inked(dst: &mut LentSurf<'_>, rect: Rect, call: &PaintCall, ink: Ink<'_>)
     requires inside { LiesIn rect (size_of dst.old) }
     requires ink { InkFits ink (format_of dst.old) }
-    ensures values { (o : Operands) → InksWith true (format_of dst.old) ink.entry call.now.origin o →
+    ensures values { let o = paint_operands (ink_at ink.entry) (format_of dst.old) in
         values_of dst.new ≡ redrawn (size_of dst.old) (values_of dst.old) (λ p. is_in p rect) (new_of_paint call.now o) }
     ensures only { OnlyPixels dst.old dst.new }
 {
-    let drawing = drawing_of(call, ink);
+    let drawing = paint_drawing(call, ink);
     draw_box(&drawing, dst, &Edges::of(rect), true);
 }
 
 /// What a paint draws with.
-fn drawing_of<'a>(call: &PaintCall, ink: Ink<'a>) -> Drawing<'a>
+fn paint_drawing<'a>(call: &PaintCall, ink: Ink<'a>) -> Drawing<'a>
     ensures source { result.source ≡ None }
     ensures mask { result.mask ≡ None }
     ensures ink { result.ink ≡ ink.entry }
-    ensures values { (o : Operands) (size : Size) (format : Format) (values : List ℕ) (p : Point) (d : ℕ) → InksWith true format ink.entry call.now.origin o →
-        drawn result size format values p d ≡ new_of_paint call.now o p d }
+    ensures values { (size : Size) (format : Format) (values : List ℕ) (p : Point) (d : ℕ) →
+        drawn result size format values p d ≡ new_of_paint call.now (paint_operands (ink_at ink.entry) format) p d }
 {
     Drawing {
         rop: Rop4::of(u16::from(call.rop3()) * 257),
         source: None,
         mask: None,
         ink,
+        origin: call.origin,
     }
 }

@@ -2,13 +2,14 @@
 
 ghost use Rattle.std.specs.Prelude.{◌≡◌, ◌≤◌, ◌<◌, ◌+◌, ◌-◌, if◌then◌else◌};
 ghost use Rattle.surf_obj.specs.Lent.{size_of, format_of};
-ghost use Rattle.blt_kernel.specs.Drawing.{CanDraw, IsDrawn};
-ghost use Rattle.blt_kernel.specs.Order.{KeepsSource};
-ghost use Rattle.blt_kernel.specs.Ways.{IsWayOf};
+ghost use Rattle.blt_kernel.specs.InnerDrawing.{CanDraw, IsDrawn};
+ghost use Rattle.blt_kernel.specs.InnerOrder.{KeepsSource};
+ghost use Rattle.blt_kernel.specs.InnerWays.{IsWayOf};
 
 use crate::drawing::Drawing;
 use crate::edges::Edges;
 use crate::way::Way;
+use geom_base::Point;
 use surf_obj::LentSurf;
 
 /// The most pixels that are drawn at once.
@@ -46,7 +47,7 @@ fn draw_row(
     ensures { IsDrawn drawing.now left y right (y + 1) dst.old dst.new }
 {
     match way {
-        Way::Fill(value) => dst.fill_run(left, y, (right - left) as usize, *value),
+        Way::Fill(value) => dst.fill_row(Point::at(left, y), (right - left) as usize, *value),
         Way::Copy(source) => source.copy_row(dst, left, y, (right - left) as usize),
         Way::Combine => draw_runs(drawing, dst, left, right, y, forward),
     }

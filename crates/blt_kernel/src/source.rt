@@ -4,31 +4,32 @@ ghost use Rattle.std.specs.Prelude.{◌≡◌, ◌≤◌, ◌<◌, ℕ, ◌+◌,
 ghost use Rattle.pix_format.specs.Value.{bits_of};
 ghost use Rattle.rop_mix.specs.Needs.{source_needed};
 ghost use Rattle.surf_obj.specs.Lent.{values_of, size_of, format_of, OnlyPixels};
-ghost use Rattle.surf_obj.specs.Surface.{point_at, redrawn};
-ghost use Rattle.blt_kernel.specs.Drawing.{SourceFits, own_value, given, source_at, source_or_zero, format_from, size_from, values_from};
-ghost use Rattle.blt_kernel.specs.Across.{Reaches, value_across};
-ghost use Rattle.blt_kernel.specs.Given.{source_given};
-ghost use Rattle.blt_kernel.specs.Order.{KeepsUnlent};
-ghost use Rattle.blt_kernel.specs.Ways.{HasItsBytes, AreAligned};
+ghost use Rattle.geom_base.specs.Points.{point_at};
+ghost use Rattle.geom_base.specs.Step.{redrawn};
+ghost use Rattle.blt_kernel.specs.InnerDrawing.{SourceFits, own_value, given, source_at, source_or_zero, format_from, size_from, values_from};
+ghost use Rattle.blt_kernel.specs.InnerShift.{Reaches, value_shifted};
+ghost use Rattle.blt_kernel.specs.InnerHanded.{source_given};
+ghost use Rattle.blt_kernel.specs.InnerOrder.{KeepsOwnSource};
+ghost use Rattle.blt_kernel.specs.InnerWays.{HasTargetBytes, AreAligned};
 ghost use Rattle.geom_base.specs.Points.{is_in, box_of};
 
-use crate::across::Across;
 use crate::edges::Edges;
-use geom_base::{Size, Target};
+use crate::shift::Shift;
+use geom_base::{Point, Size, Target};
 use pix_format::{Format, XlateKind, XlateObj};
 use rop_mix::{Rop4, needs_source};
 use surf_obj::{LentSurf, LentView};
 
 /// The pixels that are drawn, and how they become values of the target.
 #[derive(Clone, Copy)]
-pub struct Source<'a> {
+pub struct SourcePixels<'a> {
     /// The surface that was lent, or none where the target itself is the source.
     pub lent: Option<&'a LentView<'a>>,
-    pub across: Across,
+    pub shift: Shift,
     pub xlate: &'a XlateObj,
 }
 
-impl Source<'_> {
+impl SourcePixels<'_> {
     /// The source's size, for a target of a size.
     pub fn size(&self, target: Size) -> Size
         ensures { result ≡ size_from self.now.lent target }
@@ -42,19 +43,19 @@ impl Source<'_> {
     /// Whether a drawing with this source reads each point of the target before it draws there, if it goes from the top and from
     /// the left. If not, it does so from the bottom and from the right.
     pub fn is_ahead(&self) -> bool
-        ensures { KeepsUnlent self.now.lent self.now.across result }
+        ensures { KeepsOwnSource self.now.lent self.now.shift result }
     {
         match self.lent {
             Some(_) => true,
-            None => self.across.is_ahead(),
+            None => self.shift.is_ahead(),
         }
     }
 
     /// Whether it has the bytes that the rows of a box get where they get its pixels.
-    pub fn has_its_bytes(&self, dst: &LentSurf<'_>, edges: &Edges) -> bool
+    pub fn has_target_bytes(&self, dst: &LentSurf<'_>, edges: &Edges) -> bool
         requires across { edges.now.left ≤ edges.now.right }
         requires fits { SourceFits (size_of dst.now) (format_of dst.now) edges.now.left edges.now.top edges.now.right edges.now.bottom self.now }
-        ensures { IsTrue result → HasItsBytes (format_of dst.now) edges.now.left self.now }
+        ensures { IsTrue result → HasTargetBytes (format_of dst.now) edges.now.left self.now }
     {
         self.xlate.kind() == XlateKind::Trivial && self.is_aligned(dst, edges)
     }
@@ -63,11 +64,11 @@ impl Source<'_> {
     fn is_aligned(&self, dst: &LentSurf<'_>, edges: &Edges) -> bool
         requires across { edges.now.left ≤ edges.now.right }
         requires fits { SourceFits (size_of dst.now) (format_of dst.now) edges.now.left edges.now.top edges.now.right edges.now.bottom self.now }
-        ensures { IsTrue result → AreAligned self.now.lent self.now.across (format_of dst.now) edges.now.left }
+        ensures { IsTrue result → AreAligned self.now.lent self.now.shift (format_of dst.now) edges.now.left }
     {
         let format = dst.format();
         match self.lent {
-            Some(_) => same_bit(format, edges.left, self.across.column(edges.left)),
+            Some(_) => same_bit(format, edges.left, self.shift.column(edges.left)),
             None => format.bits() % 8 == 0,
         }
     }
@@ -76,17 +77,18 @@ impl Source<'_> {
     pub fn copy_row(&self, dst: &mut LentSurf<'_>, x: u32, y: u32, len: usize)
         requires columns { x + len ≤ (size_of dst.old).w }
         requires row { y < (size_of dst.old).h }
-        requires there { Reaches self.now.across (size_from self.now.lent (size_of dst.old)) x y (x + len) (y + 1) }
-        requires bytes { HasItsBytes (format_of dst.old) x self.now }
-        ensures values { values_of dst.new ≡ redrawn (size_of dst.old) (values_of dst.old) (λ p. is_in p (box_of x y (x + len) (y + 1))) (given self.now (size_of dst.old) (values_of dst.old)) }
+        requires there { Reaches self.now.shift (size_from self.now.lent (size_of dst.old)) x y (x + len) (y + 1) }
+        requires bytes { HasTargetBytes (format_of dst.old) x self.now }
+        ensures values { values_of dst.new ≡
+            redrawn (size_of dst.old) (values_of dst.old) (λ p. is_in p (box_of x y (x + len) (y + 1))) (given self.now (size_of dst.old) (values_of dst.old)) }
         ensures fit { (k : ℕ) → k < len → own_value self.now (size_of dst.old) (values_of dst.old) (point_at (x + k) y) < 2 ^ bits_of (format_of dst.old) }
         ensures only { OnlyPixels dst.old dst.new }
     {
-        let from_x = self.across.column(x);
-        let from_y = self.across.row(y);
+        let at = Point::at(x, y);
+        let from = Point::at(self.shift.column(x), self.shift.row(y));
         match self.lent {
-            Some(view) => dst.copy_run(x, y, len, view, from_x, from_y),
-            None => dst.move_run(x, y, len, from_x, from_y),
+            Some(view) => dst.copy_row(at, len, view, from),
+            None => dst.move_row(at, len, from),
         }
     }
 
@@ -102,15 +104,16 @@ impl Source<'_> {
 
     /// Reads the source's own values for a run of the target.
     fn read_own(&self, dst: &LentSurf<'_>, x: u32, y: u32, out: &mut [u32])
-        requires { Reaches self.now.across (size_from self.now.lent (size_of dst.now)) x y (x + length out.old) (y + 1) }
-        ensures values { EachIndex out.new (λ k. slice_index out.new k ≡ value_across self.now.across (size_from self.now.lent (size_of dst.now)) (values_from self.now.lent (values_of dst.now)) (point_at (x + k) y)) }
+        requires { Reaches self.now.shift (size_from self.now.lent (size_of dst.now)) x y (x + length out.old) (y + 1) }
+        ensures values { EachIndex out.new
+            (λ k. slice_index out.new k ≡ value_shifted self.now.shift (size_from self.now.lent (size_of dst.now))
+            (values_from self.now.lent (values_of dst.now)) (point_at (x + k) y)) }
         ensures fit { All (λ v. v < 2 ^ bits_of (format_from self.now.lent (format_of dst.now))) out.new }
     {
-        let x = self.across.column(x);
-        let y = self.across.row(y);
+        let from = Point::at(self.shift.column(x), self.shift.row(y));
         match self.lent {
-            Some(view) => view.read_run(x, y, out),
-            None => dst.read_run(x, y, out),
+            Some(view) => view.read_row(from, out),
+            None => dst.read_row(from, out),
         }
     }
 }
@@ -140,23 +143,25 @@ pub fn lacks_source(rop: Rop4, held: Option<Target>, lent: Option<&LentView<'_>>
 pub fn source_for<'a>(
     rop: Rop4,
     lent: Option<&'a LentView<'a>>,
-    across: Across,
+    shift: Shift,
     xlate: &'a XlateObj,
-) -> Option<Source<'a>>
-    ensures { result ≡ source_given (source_needed rop.code) lent.entry across xlate.entry }
+) -> Option<SourcePixels<'a>>
+    ensures { result ≡ source_given (source_needed rop.code) lent.entry shift xlate.entry }
 {
     if !needs_source(rop) {
         return None;
     }
-    Some(Source {
-        lent,
-        across,
-        xlate,
-    })
+    Some(SourcePixels { lent, shift, xlate })
 }
 
 /// Reads a source for a run of the target, or nothing but 0 where there is none.
-pub fn read_source(source: &Option<Source<'_>>, dst: &LentSurf<'_>, x: u32, y: u32, out: &mut [u32])
+pub fn read_source(
+    source: &Option<SourcePixels<'_>>,
+    dst: &LentSurf<'_>,
+    x: u32,
+    y: u32,
+    out: &mut [u32],
+)
     requires { IfSome source.now (SourceFits (size_of dst.now) (format_of dst.now) x y (x + length out.old) (y + 1)) }
     ensures { EachIndex out.new (λ k. slice_index out.new k ≡ source_or_zero source.now (size_of dst.now) (values_of dst.now) (point_at (x + k) y)) }
 {

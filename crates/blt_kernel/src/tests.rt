@@ -13,7 +13,7 @@ use pix_format::{ColourTable, Format, Rgb, XlateObj};
 use rop_mix::{Mix, Rop4};
 use std::alloc::{AllocError, Global};
 use std::process::Abort;
-use surf_obj::{LentSurf, LentView};
+use surf_obj::{Layout, LentSurf, LentView};
 
 const WHITE: Rgb = Rgb {
     r: 0xff,
@@ -70,7 +70,7 @@ fn shifted(alloc: Global, rect: Rect, src: Point) -> Result<[u8; 12], AllocError
     let table = ColourTable::standard(alloc, Format::B8)?;
     let xlate = XlateObj::build(alloc, Format::B8, &table, Format::B8, &table, WHITE)?;
     let mut bytes = PICTURE;
-    let mut dst = LentSurf::on(&mut bytes, SIZE, Format::B8, 4, false);
+    let mut dst = LentSurf::on(&mut bytes, Layout::new(SIZE, Format::B8, 4, false));
     let call = CopyCall {
         target: Target::Screen,
         rect,
@@ -132,7 +132,7 @@ fn copied(
     let to_table = ColourTable::standard(alloc, to)?;
     let xlate = XlateObj::build(alloc, from, &from_table, to, &to_table, WHITE)?;
     let mut bytes = [0; 12];
-    let mut dst = LentSurf::on(&mut bytes, SIZE, to, 4, false);
+    let mut dst = LentSurf::on(&mut bytes, Layout::new(SIZE, to, 4, false));
     let call = CopyCall {
         target: Target::Screen,
         rect,
@@ -145,7 +145,7 @@ fn copied(
 
 #[test]
 fn points_that_the_source_lacks(rt: HostRuntime) -> Result<(), AllocError> {
-    let view = LentView::on(&PICTURE, SIZE, Format::B8, 4, false);
+    let view = LentView::on(&PICTURE, Layout::new(SIZE, Format::B8, 4, false));
     let got = copied(
         rt.alloc(),
         &view,
@@ -161,7 +161,10 @@ fn points_that_the_source_lacks(rt: HostRuntime) -> Result<(), AllocError> {
 #[test]
 fn copies_between_formats(rt: HostRuntime) -> Result<(), AllocError> {
     let bytes = [0x17, 0xf8, 0x9a, 0xbc];
-    let view = LentView::on(&bytes, Size { w: 4, h: 2 }, Format::B4, 2, false);
+    let view = LentView::on(
+        &bytes,
+        Layout::new(Size { w: 4, h: 2 }, Format::B4, 2, false),
+    );
     let part = rect(0, 0, 4, 2);
     let bytewise = copied(rt.alloc(), &view, Format::B4, Format::B8, part, ORIGIN)?;
     assert_eq!(rt;
@@ -175,7 +178,7 @@ fn copies_between_formats(rt: HostRuntime) -> Result<(), AllocError> {
 
 #[test]
 fn bits_at_one_place_of_a_byte_and_at_another(rt: HostRuntime) -> Result<(), AllocError> {
-    let view = LentView::on(&MASK, SIZE, Format::B1, 1, false);
+    let view = LentView::on(&MASK, Layout::new(SIZE, Format::B1, 1, false));
     let whole = rect(0, 0, 4, 3);
     let same = copied(rt.alloc(), &view, Format::B1, Format::B1, whole, ORIGIN)?;
     assert_eq!(rt; same, [0xa0, 0, 0, 0, 0x70, 0, 0, 0, 0xd0, 0, 0, 0]);
@@ -201,7 +204,7 @@ fn combined(
     let xlate = XlateObj::build(alloc, Format::B8, &table, Format::B8, &table, WHITE)?;
     let brush = BrushObj::solid(alloc, WHITE);
     let mut bytes = OTHER;
-    let mut dst = LentSurf::on(&mut bytes, SIZE, Format::B8, 4, false);
+    let mut dst = LentSurf::on(&mut bytes, Layout::new(SIZE, Format::B8, 4, false));
     let call = BltCall {
         target: Target::Screen,
         rect,
@@ -217,8 +220,8 @@ fn combined(
 
 #[test]
 fn masks_and_held_sources(rt: HostRuntime) -> Result<(), AllocError> {
-    let source = LentView::on(&PICTURE, SIZE, Format::B8, 4, false);
-    let mask = LentView::on(&MASK, SIZE, Format::B1, 1, false);
+    let source = LentView::on(&PICTURE, Layout::new(SIZE, Format::B8, 4, false));
+    let mask = LentView::on(&MASK, Layout::new(SIZE, Format::B1, 1, false));
     let masked = combined(
         rt.alloc(),
         rect(0, 0, 4, 3),
@@ -253,7 +256,10 @@ fn rows_of_three_bytes_a_pixel(rt: HostRuntime) -> Result<(), AllocError> {
     let table = ColourTable::standard(rt.alloc(), Format::B24)?;
     let brush = BrushObj::solid(rt.alloc(), colour);
     let mut bytes = [0; 24];
-    let mut dst = LentSurf::on(&mut bytes, Size { w: 3, h: 2 }, Format::B24, 12, false);
+    let mut dst = LentSurf::on(
+        &mut bytes,
+        Layout::new(Size { w: 3, h: 2 }, Format::B24, 12, false),
+    );
     let rect = rect(1, 0, 2, 2);
     let call = PaintCall {
         target: Target::Screen,
@@ -302,7 +308,7 @@ fn hatches_and_mixes(rt: HostRuntime) -> Result<(), AllocError> {
     let hatch = BrushObj::hatch(alloc, Hatch::Cross, RED, BLUE);
     let white = BrushObj::solid(alloc, WHITE);
     let mut bytes = [0; 20];
-    let mut dst = LentSurf::on(&mut bytes, WIDE, Format::B8, 10, false);
+    let mut dst = LentSurf::on(&mut bytes, Layout::new(WIDE, Format::B8, 10, false));
     paint_rect(&mut dst, rect(0, 0, 10, 2), &mixed(&rt, 13), &table, &hatch);
     paint_rect(&mut dst, rect(2, 1, 9, 2), &mixed(&rt, 7), &table, &white);
     bit_blt_rect(

@@ -1,6 +1,6 @@
 //! Ways to draw rows.
 
-use crate::source::Source;
+use crate::source::SourcePixels;
 
 /// How the pixels of a row get their new values.
 #[derive(Clone, Copy)]
@@ -8,7 +8,7 @@ pub enum Way<'a> {
     /// They all get one value.
     Fill(u32),
     /// The bytes of this source are copied.
-    Copy(Source<'a>),
+    Copy(SourcePixels<'a>),
     /// Values are combined, run by run.
     Combine,
 }

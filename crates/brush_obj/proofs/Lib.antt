@@ -2,4 +2,4 @@ pub mod RowLemmas
 pub mod WrapLemmas
 pub mod BrushLemmas
 pub mod SlotLemmas
-pub mod CallLemmas
+pub mod MoveLemmas

@@ -35,17 +35,20 @@ kept-set owner [] i d s f e = absurd (let h = f.inside in omega arith)
 kept-set owner (x ∷ xs) zero d s f e = rw (same s.owner owner e) refl
 kept-set owner (x ∷ xs) (suc i) d s f e = rw (f.before 0 (omega arith)) (kept-set owner xs i d s (later owner x xs i d f) e)
 
-pub kept-set_other : (owner other : ℕ) (xs : List Slot) (i : ℕ) (d s : Slot) → IsFirst owner xs i d → s.owner ≡ owner → other ≢ owner → kept_among (set xs i s) other ≡ kept_among xs other
+pub kept-set_other : (owner other : ℕ) (xs : List Slot) (i : ℕ) (d s : Slot) → IsFirst owner xs i d → s.owner ≡ owner → other ≢ owner →
+    kept_among (set xs i s) other ≡ kept_among xs other
 kept-set_other owner other [] i d s f e h = refl
 kept-set_other owner other (x ∷ xs) zero d s f e h = rw (apart s.owner owner other e h, apart x.owner owner other f.here h) refl
-kept-set_other owner other (x ∷ xs) (suc i) d s f e h = ap (λ o. cond (x.owner == other) x.realised o) (kept-set_other owner other xs i d s (later owner x xs i d f) e h)
+kept-set_other owner other (x ∷ xs) (suc i) d s f e h = ap (λ o. cond (x.owner == other) x.realised o)
+    (kept-set_other owner other xs i d s (later owner x xs i d f) e h)
 
 pub among-set : (owner : ℕ) (xs : List Slot) (i : ℕ) (d s : Slot) → IsFirst owner xs i d → s.owner ≡ owner → is_among (set xs i s) owner ≡ true
 among-set owner [] i d s f e = absurd (let h = f.inside in omega arith)
 among-set owner (x ∷ xs) zero d s f e = rw (same s.owner owner e) refl
 among-set owner (x ∷ xs) (suc i) d s f e = rw (f.before 0 (omega arith)) (among-set owner xs i d s (later owner x xs i d f) e)
 
-pub among-set_other : (owner other : ℕ) (xs : List Slot) (i : ℕ) (d s : Slot) → IsFirst owner xs i d → s.owner ≡ owner → other ≢ owner → is_among (set xs i s) other ≡ is_among xs other
+pub among-set_other : (owner other : ℕ) (xs : List Slot) (i : ℕ) (d s : Slot) → IsFirst owner xs i d → s.owner ≡ owner → other ≢ owner →
+    is_among (set xs i s) other ≡ is_among xs other
 among-set_other owner other [] i d s f e h = refl
 among-set_other owner other (x ∷ xs) zero d s f e h = rw (apart s.owner owner other e h, apart x.owner owner other f.here h) refl
 among-set_other owner other (x ∷ xs) (suc i) d s f e h = ap (λ b. (x.owner == other) || b) (among-set_other owner other xs i d s (later owner x xs i d f) e h)
@@ -101,7 +104,8 @@ no_place owner xs e = λ k d h. fails_before_first (is_of owner) xs k d (below (
     below n m e k h = grind arith
 
 -- a slot of the owner in place of its first one
-pub placed : (owner : ℕ) (xs : List Slot) (i : ℕ) (s : Slot) → position (is_of owner) xs ≡ Some i → s.owner ≡ owner → (kept_among (set xs i s) owner ≡ s.realised) × (is_among (set xs i s) owner ≡ true) × OnlyOf owner xs (set xs i s)
+pub placed : (owner : ℕ) (xs : List Slot) (i : ℕ) (s : Slot) → position (is_of owner) xs ≡ Some i → s.owner ≡ owner →
+    (kept_among (set xs i s) owner ≡ s.realised) × (is_among (set xs i s) owner ≡ true) × OnlyOf owner xs (set xs i s)
 placed owner xs i s at e =
     let f = first_place owner xs i s at in (
       kept-set owner xs i s s f e,
@@ -127,7 +131,8 @@ among-none owner (x ∷ xs) none =
     each here later (suc k) d h = later k d (omega arith)
 
 -- a slot of an owner that had none
-pub added : (owner : ℕ) (xs : List Slot) (s : Slot) → is_among xs owner ≡ false → s.owner ≡ owner → (kept_among (xs ++ s ∷ []) owner ≡ s.realised) × (is_among (xs ++ s ∷ []) owner ≡ true) × OnlyOf owner xs (xs ++ s ∷ [])
+pub added : (owner : ℕ) (xs : List Slot) (s : Slot) → is_among xs owner ≡ false → s.owner ≡ owner →
+    (kept_among (xs ++ s ∷ []) owner ≡ s.realised) × (is_among (xs ++ s ∷ []) owner ≡ true) × OnlyOf owner xs (xs ++ s ∷ [])
 added owner xs s none e = (
   kept-push owner xs s (among-none owner xs none) e,
   among-push owner xs s e,

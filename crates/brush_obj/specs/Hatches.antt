@@ -1,12 +1,12 @@
 -- The points of the hatches, in tiles of eight by eight, and hatches in two values.
-use Rattle.std.specs.Prelude.{ℕ, Bool, ◌+◌, ◌-ℤ◌, ◌==◌, ◌||◌, ◌<◌, ◌^◌, if◌then◌else◌}
+use Rattle.std.specs.Prelude.{ℕ, Bool, ◌+◌, ◌==◌, ◌||◌, ◌<◌, ◌^◌, if◌then◌else◌}
 use Rattle.geom_base.specs.declared.point.Point.{Point}
 use Rattle.pix_format.specs.declared.format.Format.{Format}
 use Rattle.pix_format.specs.Value.{bits_of}
 use Rattle.brush_obj.specs.declared.hatch.Hatch.{Hatch}
 use Rattle.brush_obj.specs.declared.hatch.Hatch.TheVariants.{Horizontal, Vertical, FDiagonal, BDiagonal, Cross, DiagCross}
 use Rattle.brush_obj.specs.declared.hatch_values.HatchValues.{HatchValues}
-use Rattle.brush_obj.specs.Wrapping.{wrapped}
+use Rattle.brush_obj.specs.Wrapping.{from_origin, wrapped}
 
 -- the point at column x of row y is in the hatch: on the line through the middle across or down, on the diagonal that falls or
 -- rises to the right, or on one of two of these
@@ -22,9 +22,13 @@ in_hatch DiagCross x y = (x == y) || (x + y == 7)
 abbrev pub hatch_value : HatchValues → ℕ → ℕ → ℕ
 hatch_value h x y = if in_hatch h.kind x y then h.fore else h.back
 
--- the value at a point: the tile repeats from the origin on in all directions
+-- the value at a point counted from the origin: the tile repeats in all directions
+abbrev pub tiled_hatch : HatchValues → Point → ℕ
+tiled_hatch h q = hatch_value h (wrapped q.x 8) (wrapped q.y 8)
+
+-- the value at a point
 abbrev pub value_of_hatch : HatchValues → Point → Point → ℕ
-value_of_hatch h origin p = hatch_value h (wrapped (p.x -ℤ origin.x) 8) (wrapped (p.y -ℤ origin.y) 8)
+value_of_hatch h origin p = tiled_hatch h (from_origin origin p)
 
 -- both values are of a format
 pub record HatchFits (format : Format) (h : HatchValues) : Type 0 where

@@ -1,12 +1,15 @@
 -- What a pattern is: a copy of a surface, with the background colour that was in force when it was made.
-use Rattle.std.specs.Prelude.{All, length, ◌≡◌, ◌<◌, ◌≤◌, ◌*◌, ◌^◌}
+use Rattle.std.specs.Prelude.{ℕ, List, All, length, ◌≡◌, ◌<◌, ◌≤◌, ◌*◌, ◌^◌}
 use Rattle.geom_base.specs.declared.size.Size.{Size}
 use Rattle.pix_format.specs.declared.rgb.Rgb.{Rgb}
 use Rattle.pix_format.specs.Value.{bits_of, colours_of}
-use Rattle.surf_obj.specs.Surface.{Surface}
+use Rattle.pix_format.specs.declared.format.Format.{Format}
 
 pub record Image : Type 0 where
-  pub picture : Surface
+  pub size : Size
+  pub format : Format
+  pub table : List Rgb
+  pub values : List ℕ
   pub back : Rgb
 
 -- each side has 1 to 64 pixels
@@ -14,7 +17,7 @@ abbrev pub HasPatternSides : Size → Type 0
 HasPatternSides size = (1 ≤ size.w) × (size.w ≤ 64) × (1 ≤ size.h) × (size.h ≤ 64)
 
 -- the table fits the format, and there is a value for each pixel, each with at most the format's bits
-pub record IsWhole (s : Surface) : Type 0 where
-  pub table : length s.table ≡ colours_of s.format
-  pub len : length s.values ≡ s.size.w * s.size.h
-  pub fit : All (λ v. v < 2 ^ bits_of s.format) s.values
+pub record IsImage (i : Image) : Type 0 where
+  pub table : length i.table ≡ colours_of i.format
+  pub len : length i.values ≡ i.size.w * i.size.h
+  pub fit : All (λ v. v < 2 ^ bits_of i.format) i.values

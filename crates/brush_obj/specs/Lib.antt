@@ -5,4 +5,6 @@ pub mod Brush
 pub mod Realised
 pub mod Slots
 pub mod Refusals
+pub mod Ink
 pub mod Calls
+pub mod CallLaws

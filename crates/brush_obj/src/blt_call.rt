@@ -1,5 +1,8 @@
 //! The call that combines a mask, a brush, a source and a target.
 
+ghost use Rattle.std.specs.Prelude.{◌≡◌};
+
+use crate::shifting::shifted;
 use geom_base::{Point, Rect, Target};
 use rop_mix::Rop4;
 
@@ -14,4 +17,21 @@ pub struct BltCall {
     pub mask: Point,
     pub origin: Point,
     pub rop: Rop4,
+}
+
+impl BltCall {
+    ghost use Rattle.brush_obj.specs.Calls.{RectMoves, PointMoves, moved_blt};
+
+    /// The call on a target whose points are moved.
+    pub fn shifted(&self, by: Point) -> BltCall
+        requires rect { RectMoves self.now.rect by }
+        requires origin { PointMoves self.now.origin by }
+        ensures { result ≡ moved_blt self.now by }
+    {
+        BltCall {
+            rect: self.rect.shifted(by),
+            origin: shifted(self.origin, by),
+            ..*self
+        }
+    }
 }

@@ -32,8 +32,8 @@ impl Model for BrushObj {
 }
 
 impl BrushObj {
-    ghost use Rattle.brush_obj.specs.Brush.{brush_value, is_solid, size_of};
-    ghost use Rattle.brush_obj.specs.Image.{HasPatternSides, IsWhole};
+    ghost use Rattle.brush_obj.specs.Brush.{brush_value, is_solid, size_of, tiled};
+    ghost use Rattle.brush_obj.specs.Image.{HasPatternSides, IsImage};
     ghost use Rattle.brush_obj.specs.Refusals.{Refuses};
     ghost use Rattle.brush_obj.specs.Slots.{OnlySlot, has_place, kept};
 
@@ -66,8 +66,9 @@ impl BrushObj {
     ) -> Result<BrushObj, BrushRefusal>
         requires width { 1 ≤ size.w }
         requires height { 1 ≤ size.h }
-        requires whole { IsWhole (record { size = size; format = format; table = table.now; values = values.now }) }
-        ensures ok { IfOk result (λ b. b ≡ record { face = BrushFace.Pattern (record { picture = record { size = size; format = format; table = table.now; values = values.now }; back = back }); slots = [] }) }
+        requires whole { IsImage (record { size = size; format = format; table = table.now; values = values.now; back = back }) }
+        ensures ok { IfOk result (λ b. b ≡
+            record { face = BrushFace.Pattern (record { size = size; format = format; table = table.now; values = values.now; back = back }); slots = [] }) }
         ensures sides { OnOk result (HasPatternSides size) }
         ensures err { IfErr result (Refuses size) }
     {
@@ -110,7 +111,7 @@ impl BrushObj {
     pub fn solid_value(&self, format: Format, table: &ColourTable) -> Option<u32>
         requires { length table.now ≡ colours_of format }
         ensures solid { is_some result ≡ is_solid self.now.face }
-        ensures value { IfSome result (λ v. (origin p : Point) → brush_value self.now.face format table.now origin p ≡ v) }
+        ensures value { IfSome result (λ v. tiled self.now.face format table.now ≡ (λ q. v)) }
         ensures fits { IfSome result (λ v. v < 2 ^ bits_of format) }
     {
         self.face.solid_value(format, table)

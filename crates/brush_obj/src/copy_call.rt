@@ -22,15 +22,17 @@ pub struct CopyCall {
 const ZERO: Point = Point { x: 0, y: 0 };
 
 impl CopyCall {
-    ghost use Rattle.brush_obj.specs.Calls.{Operands, blt_of, new_of_blt, new_of_copy, source_value};
+    ghost use Rattle.brush_obj.specs.Calls.{RectMoves, moved_copy, Operands, blt_of, new_of_blt, new_of_copy, point_across};
 
     /// The raster operation that copies: the source alone.
     pub fn as_blt(&self) -> BltCall
         ensures call { result ≡ blt_of self.now }
         ensures same { (o : Operands) (p : Point) (d : ℕ) → new_of_blt result o p d ≡ new_of_copy self.now o p d }
         // it gives a point the source's value, and leaves it untouched where the source has no point
-        ensures source { (o : Operands) (p : Point) (d v : ℕ) → source_value o self.now.rect self.now.src p ≡ Some v → v < 2 ^ bits_of o.format → new_of_copy self.now o p d ≡ Some v }
-        ensures untouched { (o : Operands) (p : Point) (d : ℕ) → source_value o self.now.rect self.now.src p ≡ None → new_of_copy self.now o p d ≡ None }
+        ensures source { (o : Operands) (p : Point) (d v : ℕ) → o.source (point_across self.now.rect self.now.src p) ≡ Some v → v < 2 ^ bits_of o.format →
+            new_of_copy self.now o p d ≡ Some v }
+        ensures untouched { (o : Operands) (p : Point) (d : ℕ) → o.source (point_across self.now.rect self.now.src p) ≡ None →
+            new_of_copy self.now o p d ≡ None }
     {
         BltCall {
             target: self.target,
@@ -40,6 +42,17 @@ impl CopyCall {
             mask: ZERO,
             origin: ZERO,
             rop: Rop4::of(0xcccc),
+        }
+    }
+
+    /// The call on a target whose points are moved.
+    pub fn shifted(&self, by: Point) -> CopyCall
+        requires rect { RectMoves self.now.rect by }
+        ensures { result ≡ moved_copy self.now by }
+    {
+        CopyCall {
+            rect: self.rect.shifted(by),
+            ..*self
         }
     }
 }

@@ -1,7 +1,8 @@
 //! Hatches in the values of a surface.
 
-ghost use Rattle.std.specs.Prelude.{◌≡◌, ◌≤◌, ◌<◌, ◌+◌, ◌%◌, ◌+ℤ◌, pos, EachIndex, length, slice_index};
-ghost use Rattle.pix_format.specs.Value.{colours_of, value_of};
+ghost use Rattle.std.specs.Prelude.{◌≡◌, ◌≤◌, ◌<◌, ◌+◌, ◌/◌, ◌%◌, ◌^◌, ◌+ℤ◌, pos, All, EachIndex, length, slice_index};
+ghost use Rattle.pix_format.specs.Value.{bits_of, colours_of, value_of};
+ghost use Rattle.pix_format.specs.declared.format.Format.{Format};
 
 use crate::hatch::Hatch;
 use crate::repeating::repeat;
@@ -41,7 +42,8 @@ impl HatchValues {
 
     /// The values along a row, from a point on.
     pub fn fill_row(&self, origin: Point, at: Point, out: &mut [u32])
-        ensures { EachIndex out.new (λ k. slice_index out.new k ≡ value_of_hatch self.now origin (record { x = at.x +ℤ pos k; y = at.y })) }
+        ensures values { EachIndex out.new (λ k. slice_index out.new k ≡ value_of_hatch self.now origin (record { x = at.x +ℤ pos k; y = at.y })) }
+        ensures fit { (format : Format) → HatchFits format self.now → All (λ v. v < 2 ^ bits_of format) out.new }
     {
         let x = wrapped(at.x, origin.x, 8);
         let y = wrapped(at.y, origin.y, 8);
@@ -55,15 +57,37 @@ impl HatchValues {
         requires column { x < 8 }
         requires row { y < 8 }
         requires short { length out.old ≤ 8 }
-        ensures { EachIndex out.new (λ k. slice_index out.new k ≡ hatch_value self.now ((x + k) % 8) y) }
+        ensures values { EachIndex out.new (λ k. slice_index out.new k ≡ hatch_value self.now ((x + k) % 8) y) }
+        ensures fit { (format : Format) → HatchFits format self.now → All (λ v. v < 2 ^ bits_of format) out.new }
     {
         for k in 0..out.len() {
             let column = turned(x as usize + k, 8) as u32;
-            out[k] = if self.kind.has(column, y) {
-                self.fore
-            } else {
-                self.back
-            };
+            out[k] = self.tile_value(column, y);
+        }
+    }
+
+    /// The values of the tile, row by row.
+    pub(crate) fn write_tile(&self, out: &mut [u32])
+        requires { length out.old ≡ 64 }
+        ensures values { EachIndex out.new (λ k. slice_index out.new k ≡ hatch_value self.now (k % 8) (k / 8)) }
+        ensures fit { (format : Format) → HatchFits format self.now → All (λ v. v < 2 ^ bits_of format) out.new }
+    {
+        for k in 0..out.len() {
+            out[k] = self.tile_value(k as u32 % 8, k as u32 / 8);
+        }
+    }
+
+    /// The value at column `x` of row `y` of the tile.
+    fn tile_value(&self, x: u32, y: u32) -> u32
+        requires column { x < 8 }
+        requires row { y < 8 }
+        ensures value { result ≡ hatch_value self.now x y }
+        ensures fits { (format : Format) → HatchFits format self.now → result < 2 ^ bits_of format }
+    {
+        if self.kind.has(x, y) {
+            self.fore
+        } else {
+            self.back
         }
     }
 }

@@ -5,6 +5,7 @@ ghost use Rattle.geom_base.specs.declared.point.Point.{Point};
 ghost use Rattle.pix_format.specs.Value.{bits_of};
 ghost use Rattle.rop_mix.specs.Rop.{rop3_of};
 
+use crate::shifting::shifted;
 use geom_base::{Point, Rect, Target};
 use rop_mix::Mix;
 
@@ -18,13 +19,27 @@ pub struct PaintCall {
 }
 
 impl PaintCall {
-    ghost use Rattle.brush_obj.specs.Brush.{brush_value};
-    ghost use Rattle.brush_obj.specs.Calls.{Operands, new_of_paint};
+    ghost use Rattle.brush_obj.specs.Wrapping.{from_origin};
+    ghost use Rattle.brush_obj.specs.Calls.{RectMoves, PointMoves, moved_paint, Operands, new_of_paint};
 
     /// The code of three operands that does what the mix does, whatever the source.
     pub fn rop3(&self) -> u8
-        ensures { (o : Operands) (p : Point) (s d : ℕ) → new_of_paint self.now o p d ≡ Some (rop3_of result (brush_value o.brush o.format o.table self.now.origin p) s d (bits_of o.format)) }
+        ensures { (o : Operands) (p : Point) (s d : ℕ) →
+            new_of_paint self.now o p d ≡ Some (rop3_of result (o.pattern (from_origin self.now.origin p)) s d (bits_of o.format)) }
     {
         self.mix.rop3()
+    }
+
+    /// The call on a target whose points are moved.
+    pub fn shifted(&self, by: Point) -> PaintCall
+        requires rect { RectMoves self.now.rect by }
+        requires origin { PointMoves self.now.origin by }
+        ensures { result ≡ moved_paint self.now by }
+    {
+        PaintCall {
+            rect: self.rect.shifted(by),
+            origin: shifted(self.origin, by),
+            ..*self
+        }
     }
 }

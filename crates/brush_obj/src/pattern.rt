@@ -1,13 +1,13 @@
 //! A pattern: a picture that a brush repeats.
 
-ghost use Rattle.std.specs.Prelude.{◌≡◌, ◌≤◌, ◌<◌, ◌+◌, ◌%◌, ◌^◌, All, EachIndex, length, slice_index};
-ghost use Rattle.pix_format.specs.Translate.{convert};
+ghost use Rattle.std.specs.Prelude.{◌≡◌, ◌<◌, ◌*◌, ◌^◌, All, EachIndex, IfSome, is_some, length, slice_index};
+ghost use Rattle.pix_format.specs.Translate.{convert, same_kind};
 ghost use Rattle.pix_format.specs.Value.{bits_of, colours_of};
-ghost use Rattle.surf_obj.specs.Surface.{value_at};
+ghost use Rattle.geom_base.specs.Grid.{value_at};
 
-use crate::repeating::copy_round;
+use crate::tile::Tile;
 use geom_base::Size;
-use pix_format::{ColourTable, Format, Rgb, convert_row};
+use pix_format::{ColourTable, Format, Rgb, convert_row, is_same_kind};
 use std::marker::Model;
 
 /// A picture that a brush repeats, at most 64 by 64 pixels, as it was copied from a bitmap: with the format and the table
@@ -22,17 +22,18 @@ pub struct Pattern {
 }
 
 impl Model for Pattern {
-    ghost use Rattle.brush_obj.specs.Image.{Image, HasPatternSides, IsWhole};
+    ghost use Rattle.brush_obj.specs.Image.{Image, HasPatternSides, IsImage};
 
     ghost Value = { Image };
 
-    ghost view = { λ p. record { picture = record { size = p.size; format = p.format; table = p.table; values = p.values.items }; back = p.back } };
+    ghost view = { λ p. record { size = p.size; format = p.format; table = p.table; values = p.values.items; back = p.back } };
 
-    ghost invariant = { λ p. HasPatternSides p.size × IsWhole (record { size = p.size; format = p.format; table = p.table; values = p.values.items }) };
+    ghost invariant = { λ p. HasPatternSides p.size
+        × IsImage (record { size = p.size; format = p.format; table = p.table; values = p.values.items; back = p.back }) };
 }
 
 impl Pattern {
-    ghost use Rattle.brush_obj.specs.Image.{HasPatternSides, IsWhole};
+    ghost use Rattle.brush_obj.specs.Image.{HasPatternSides, IsImage};
 
     /// A pattern of these values, row by row.
     pub(crate) fn new(
@@ -43,8 +44,8 @@ impl Pattern {
         back: Rgb,
     ) -> Pattern
         requires sides { HasPatternSides size }
-        requires whole { IsWhole (record { size = size; format = format; table = table; values = values.items }) }
-        ensures { result ≡ record { picture = record { size = size; format = format; table = table; values = values.items }; back = back } }
+        requires whole { IsImage (record { size = size; format = format; table = table; values = values.items; back = back }) }
+        ensures { result ≡ record { size = size; format = format; table = table; values = values.items; back = back } }
     {
         Pattern {
             size,
@@ -57,33 +58,54 @@ impl Pattern {
 
     /// Its width and height.
     pub fn size(&self) -> Size
-        ensures size { result ≡ self.now.picture.size }
+        ensures size { result ≡ self.now.size }
         ensures sides { HasPatternSides result }
     {
         self.size
     }
 
-    /// A part of a row as values of a surface of this format and table: from column `x` of row `y` on, and round to the first
-    /// column again.
-    pub(crate) fn fill_part(
-        &self,
-        format: Format,
-        table: &ColourTable,
-        x: u32,
-        y: u32,
-        out: &mut [u32],
-    )
+    /// Its own values as a tile, or `None` where a surface of this format and table keeps its pixels otherwise.
+    pub(crate) fn kept_tile(&self, format: Format, table: &ColourTable) -> Option<Tile<'_>>
+        ensures some { is_some result ≡ same_kind self.now.format self.now.table format table.now }
+        ensures size { IfSome result (λ t. t.size ≡ self.now.size) }
+        ensures values { IfSome result (λ t. t.values.now ≡ self.now.values) }
+        ensures fit { IfSome result (λ t. All (λ v. v < 2 ^ bits_of format) t.values.now) }
+    {
+        if !is_same_kind(self.format, &self.table, format, table) {
+            return None;
+        }
+        Some(Tile::new(self.size, self.values.as_slice()))
+    }
+
+    /// Its values on a surface of this format and table, row by row.
+    pub(crate) fn write_tile(&self, format: Format, table: &ColourTable, out: &mut [u32])
         requires table { length table.now ≡ colours_of format }
-        requires column { x < self.now.picture.size.w }
-        requires row { y < self.now.picture.size.h }
-        requires short { length out.old ≤ self.now.picture.size.w }
-        ensures values { let image = self.now in let picture = image.picture in EachIndex out.new (λ k. slice_index out.new k ≡
-            convert picture.format picture.table format table.now image.back (value_at picture.size picture.values ((x + k) % picture.size.w) y)) }
+        requires len { length out.old ≡ self.now.size.w * self.now.size.h }
+        ensures values { let i = self.now in
+            EachIndex out.new (λ k. slice_index out.new k ≡ convert i.format i.table format table.now i.back (slice_index i.values k)) }
         ensures fit { All (λ v. v < 2 ^ bits_of format) out.new }
     {
-        let width = self.size.w as usize;
-        let start = y as usize * width;
-        copy_round(&self.values[start..start + width], x as usize, out);
+        out.copy_from_slice(&self.values);
         convert_row(self.format, &self.table, format, table, self.back, out);
+    }
+
+    /// Its value at column `x` of row `y` on a surface of this format and table.
+    pub(crate) fn tile_value(&self, format: Format, table: &ColourTable, x: u32, y: u32) -> u32
+        requires table { length table.now ≡ colours_of format }
+        requires column { x < self.now.size.w }
+        requires row { y < self.now.size.h }
+        ensures value { let i = self.now in result ≡ convert i.format i.table format table.now i.back (value_at i.size i.values x y) }
+        ensures fits { result < 2 ^ bits_of format }
+    {
+        let mut value = [self.values[(y * self.size.w + x) as usize]];
+        convert_row(
+            self.format,
+            &self.table,
+            format,
+            table,
+            self.back,
+            &mut value,
+        );
+        value[0]
     }
 }

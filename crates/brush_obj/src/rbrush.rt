@@ -1,14 +1,10 @@
 //! Realised brushes.
 
-ghost use Rattle.std.specs.Prelude.{◌≡◌, ◌≤◌, ◌+◌, ◌++◌, ◌∷◌, ◌+ℤ◌, pos, [], EachIndex, IfOk, List, length, slice_index};
-ghost use Rattle.pix_format.specs.declared.format.Format.{Format};
-ghost use Rattle.pix_format.specs.declared.rgb.Rgb.{Rgb};
+ghost use Rattle.std.specs.Prelude.{◌≡◌, ◌≤◌, ◌+◌, ◌++◌, ◌∷◌, [], IfOk, length};
 ghost use Rattle.brush_obj.specs.Image.{HasPatternSides};
-ghost use Rattle.brush_obj.specs.Realised.{HasAllValues, IsReadyFor};
+ghost use Rattle.brush_obj.specs.Realised.{IsReadyFor};
 
-use crate::repeating::{copy_round, repeat};
-use crate::wrapping::wrapped;
-use geom_base::{Point, Size};
+use geom_base::Size;
 use std::alloc::{AllocError, Global};
 use std::marker::Model;
 
@@ -34,9 +30,6 @@ impl Model for RBrush {
 }
 
 impl RBrush {
-    ghost use Rattle.brush_obj.specs.declared.face.BrushFace.{BrushFace};
-    ghost use Rattle.brush_obj.specs.Brush.{IsRealised, brush_value, value_of_realised};
-
     /// A realised brush of a size, without values, with room for all of them.
     ///
     /// # Errors
@@ -75,7 +68,8 @@ impl RBrush {
 
     /// Its width and height.
     pub fn size(&self) -> Size
-        ensures { result ≡ self.now.size }
+        ensures size { result ≡ self.now.size }
+        ensures sides { HasPatternSides result }
     {
         self.size
     }
@@ -85,22 +79,5 @@ impl RBrush {
         ensures { result.now ≡ self.now.values }
     {
         self.values.as_slice()
-    }
-
-    /// The brush's values along a row of a surface, from a point on.
-    pub fn fill_row(&self, origin: Point, at: Point, out: &mut [u32])
-        requires { HasAllValues self.now }
-        ensures values { EachIndex out.new (λ k. slice_index out.new k ≡ value_of_realised self.now origin (record { x = at.x +ℤ pos k; y = at.y })) }
-        // it is the brush whose realised form this is
-        ensures brush { (face : BrushFace) (format : Format) (table : List Rgb) → IsRealised face format table self.now →
-            EachIndex out.new (λ k. slice_index out.new k ≡ brush_value face format table origin (record { x = at.x +ℤ pos k; y = at.y })) }
-    {
-        let width = self.size.w as usize;
-        let x = wrapped(at.x, origin.x, self.size.w) as usize;
-        let y = wrapped(at.y, origin.y, self.size.h) as usize;
-        let start = y * width;
-        let first = out.len().min(width);
-        copy_round(&self.values[start..start + width], x, &mut out[..first]);
-        repeat(out, width);
     }
 }

@@ -1,6 +1,6 @@
 //! Brushes and calls by the tables that define them, and by values that were worked out by hand.
 
-use crate::{BltCall, BrushObj, BrushRefusal, CopyCall, Hatch, PaintCall};
+use crate::{BltCall, BrushObj, BrushRefusal, CopyCall, Hatch, Ink, MOST_VALUES, PaintCall};
 use geom_base::{Point, Rect, Size, Target};
 use pix_format::{ColourTable, Format, Rgb};
 use rop_mix::{Mix, Rop4};
@@ -39,15 +39,14 @@ fn points_of_hatches(rt: HostRuntime) -> Result<(), AllocError> {
     ];
     for (kind, want) in rows {
         let brush = BrushObj::hatch(rt.alloc(), kind, WHITE, BLACK);
+        let ink = Ink::ready(brush.face(), Format::B1, &table).expect(&rt, "hatches are ready");
         for y in 0..8 {
             let mut row = [0; 8];
             let at = Point {
                 x: -16,
                 y: y as i32 - 8,
             };
-            brush
-                .face()
-                .fill_row(Format::B1, &table, ORIGIN, at, &mut row);
+            ink.fill_row(ORIGIN, at, &mut row);
             let mut byte = 0;
             for value in row {
                 byte = byte << 1 | value;
@@ -63,18 +62,17 @@ fn points_of_hatches(rt: HostRuntime) -> Result<(), AllocError> {
 fn values_of_a_hatch(rt: HostRuntime) -> Result<(), AllocError> {
     let table = ColourTable::standard(rt.alloc(), Format::B8)?;
     let brush = BrushObj::hatch(rt.alloc(), Hatch::FDiagonal, RED, WHITE);
-    let hatch = brush
-        .face()
-        .hatch_values(Format::B8, &table)
-        .expect(&rt, "the brush is a hatch");
-    let mut row = [0; 12];
-    hatch.fill_row(Point { x: 3, y: -1 }, Point { x: -6, y: 1 }, &mut row);
     let want = [
         0xff, 0xff, 0xff, 0xe0, 0xff, 0xff, 0xff, 0xff, 0xff, 0xff, 0xff, 0xe0,
     ];
-    assert_eq!(rt; row, want);
-    let solid = BrushObj::solid(rt.alloc(), RED);
-    assert!(rt; solid.face().hatch_values(Format::B8, &table).is_none());
+    let mut room = [0; MOST_VALUES];
+    let made = Ink::made(brush.face(), Format::B8, &table, &mut room);
+    let ready = Ink::ready(brush.face(), Format::B8, &table).expect(&rt, "hatches are ready");
+    for ink in [ready, made] {
+        let mut row = [0; 12];
+        ink.fill_row(Point { x: 3, y: -1 }, Point { x: -6, y: 1 }, &mut row);
+        assert_eq!(rt; row, want);
+    }
     Ok(())
 }
 
@@ -94,13 +92,12 @@ fn points_of_a_pattern(rt: HostRuntime) -> Result<(), AllocError> {
         (-1, 0, [1, 3, 1, 1]),
         (i32::MIN, i32::MAX, [1, 1, 3, 1]),
     ];
+    let ink = Ink::ready(brush.face(), Format::B8, &table).expect(&rt, "its values are kept");
     for (origin, x, want) in rows {
         let mut row = [0; 4];
         let origin = Point { x: origin, y: -7 };
         let at = Point { x, y: 2 };
-        brush
-            .face()
-            .fill_row(Format::B8, &table, origin, at, &mut row);
+        ink.fill_row(origin, at, &mut row);
         assert_eq!(rt; row, want, "{x}");
         assert_eq!(rt; brush.value_at(Format::B8, &table, origin, at), want[0]);
     }
@@ -119,6 +116,11 @@ fn a_pattern_in_one_bit(rt: HostRuntime) -> Result<(), AllocError> {
         assert_eq!(rt; brush.value_at(Format::B1, &mono, ORIGIN, ORIGIN), want);
         let below = Point { x: 0, y: 1 };
         assert_eq!(rt; brush.value_at(Format::B1, &mono, ORIGIN, below), 0);
+        assert!(rt; Ink::ready(brush.face(), Format::B1, &mono).is_none());
+        let mut room = [0; MOST_VALUES];
+        let mut row = [7; 2];
+        Ink::made(brush.face(), Format::B1, &mono, &mut room).fill_row(ORIGIN, ORIGIN, &mut row);
+        assert_eq!(rt; row, [want, want]);
     }
     Ok(())
 }
@@ -159,7 +161,7 @@ fn slots_of_two_owners(rt: HostRuntime) -> Result<(), AllocError> {
     match brush.rbrush(0) {
         Some(kept) => {
             assert_eq!(rt; kept.values().len(), 64);
-            kept.fill_row(ORIGIN, at, &mut row);
+            Ink::realised(kept).fill_row(ORIGIN, at, &mut row);
         }
         None => assert!(rt; false),
     }

@@ -1,4 +1,4 @@
 pub mod TurnLemmas
 pub mod OrderLemmas
-pub mod FrameLemmas
+pub mod WithinLemmas
 pub mod BatchLemmas

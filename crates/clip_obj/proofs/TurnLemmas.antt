@@ -2,34 +2,29 @@
 use Rattle.std.proofs.Common.{◌≡◌, ◌∙◌, ℕ, take, drop, ℤ, List, [], ◌∷◌, ◌++◌, Bool, true, false, cond, refl, ap, sym, ◌⊎◌, inl, inr, reverse}
 use Rattle.std.specs.Ordering.{int_eq}
 use Rattle.std.specs.List.{All}
-use Rattle.std.specs.List.Sorted.{IsPermutation}
-use Rattle.std.proofs.lemmas.Bool.{false≢true}
+use Rattle.std.proofs.lemmas.Bool.{cases_Bool, false_from_ne_true, false≢true}
 use Rattle.std.proofs.lemmas.Bool.Decides.{Decides-int_eq}
 use Rattle.std.proofs.lemmas.Grind.{reverse_onto}
-use Rattle.std.proofs.lemmas.List.{take-append-drop}
+use Rattle.std.proofs.lemmas.List.{append_assoc, take-append-drop}
 use Rattle.std.proofs.lemmas.List.Elements.{All-head, All-tail}
-use Rattle.std.proofs.lemmas.List.Sorted.{IsPermutation-refl, IsPermutation-reverse, IsPermutation-cons, IsPermutation-middle, IsPermutation-sym, IsPermutation-trans, All-permutation}
+use Rattle.std.proofs.lemmas.List.Sorted.{IsPermutation-reverse, All-permutation}
 use Rattle.geom_base.specs.declared.rect.Rect.{Rect}
-use Rattle.clip_obj.specs.Order.{behind_band, turned, BeginsElsewhere}
+use Rattle.clip_obj.specs.Order.{behind_band, turned}
+use Rattle.clip_obj.specs.InnerOrder.{BeginsElsewhere}
 
 -- the test of two rows
 pub same_row : (a b : ℤ) → a ≡ b → int_eq a b ≡ true
 same_row a b e = (Decides-int_eq a b).1 e
 
 pub other_row : (a b : ℤ) → (¬ (a ≡ b)) → int_eq a b ≡ false
-other_row a b n = no (int_eq a b) (λ t. n ((Decides-int_eq a b).0 t))
-  where
-    no : (t : Bool) → (t ≡ true → ⊥) → t ≡ false
-    no true h = absurd (h refl)
-    no false h = refl
+other_row a b n = false_from_ne_true (int_eq a b) (λ t. n ((Decides-int_eq a b).0 t))
 
 -- either the first one begins in the row, or it doesn't
 pub by_row : (a b : ℤ) → (a ≡ b) ⊎ (¬ (a ≡ b))
-by_row a b = decide (int_eq a b) refl
-  where
-    decide : (t : Bool) → int_eq a b ≡ t → (a ≡ b) ⊎ (¬ (a ≡ b))
-    decide true e = inl ((Decides-int_eq a b).0 e)
-    decide false e = inr (λ same. false≢true (sym e ∙ (Decides-int_eq a b).1 same))
+by_row a b = elim (cases_Bool (int_eq a b)) [
+  | inl e ↦ inl ((Decides-int_eq a b).0 e)
+  | inr e ↦ inr (λ same. false≢true (sym e ∙ (Decides-int_eq a b).1 same))
+]
 
 -- a rectangle passes those of its row
 passes : (r : Rect) (xs ys : List Rect) → All (λ s. s.top ≡ r.top) xs → behind_band r (xs ++ ys) ≡ xs ++ behind_band r ys
@@ -56,21 +51,19 @@ turned_begins top (s ∷ rects) h = first (turned rects)
     first [] = h
     first (t ∷ xs) = begins_by s t top (int_eq t.top s.top) (behind_band s xs) (t ∷ xs) refl h
 
-pub append_later : (xs ys zs : List Rect) → xs ++ (ys ++ zs) ≡ (xs ++ ys) ++ zs
-append_later [] ys zs = refl
-append_later (x ∷ xs) ys zs = ap (λ (l : List Rect). x ∷ l) (append_later xs ys zs)
-
 -- a band and the rest are turned one after the other
-pub turned_band : (top : ℤ) (band rest : List Rect) → All (λ r. r.top ≡ top) band → BeginsElsewhere top rest → turned (band ++ rest) ≡ reverse band ++ turned rest
+pub turned_band : (top : ℤ) (band rest : List Rect) → All (λ r. r.top ≡ top) band → BeginsElsewhere top rest →
+    turned (band ++ rest) ≡ reverse band ++ turned rest
 turned_band top [] rest h n = refl
 turned_band top (r ∷ band) rest h n =
     let row : r.top ≡ top = All-head (λ s. s.top ≡ top) r band h in
     let others : All (λ s. s.top ≡ top) band = All-tail (λ s. s.top ≡ top) r band h in
-    let back : All (λ s. s.top ≡ r.top) (reverse band) = All-permutation (λ s. s.top ≡ r.top) band (reverse band) (IsPermutation-reverse band) (λ k d lt. others k d lt ∙ sym row) in
+    let back : All (λ s. s.top ≡ r.top) (reverse band) = All-permutation (λ s. s.top ≡ r.top) band (reverse band) (IsPermutation-reverse band)
+    (λ k d lt. others k d lt ∙ sym row) in
     ap (behind_band r) (turned_band top band rest others n)
     ∙ passes r (reverse band) (turned rest) back
     ∙ ap (λ (l : List Rect). reverse band ++ l) (stays r (turned rest) (rw row (turned_begins top rest n)))
-    ∙ append_later (reverse band) (r ∷ []) (turned rest)
+    ∙ sym (append_assoc (reverse band) (r ∷ []) (turned rest))
     ∙ ap (λ (l : List Rect). l ++ turned rest) (sym (reverse_onto band r []))
 
 -- one band more
@@ -78,19 +71,6 @@ pub turn_next : (top : ℤ) (n : ℕ) (out rest new later front all : List Rect)
     new ≡ out ++ reverse front → front ≡ take n rest → later ≡ drop n rest → out ++ turned rest ≡ all → new ++ turned later ≡ all
 turn_next top n out rest new later front all band next is first second so =
     rw (is, first, second)
-    (sym (append_later out (reverse (take n rest)) (turned (drop n rest)))
+    (append_assoc out (reverse (take n rest)) (turned (drop n rest))
     ∙ ap (λ (l : List Rect). out ++ l) (sym (turned_band top (take n rest) (drop n rest) band next) ∙ ap turned (take-append-drop n rest))
     ∙ so)
-
--- turning rearranges
-behind_rearranges : (r : Rect) (xs : List Rect) → IsPermutation (r ∷ xs) (behind_band r xs)
-behind_rearranges r [] = IsPermutation-refl (r ∷ [])
-behind_rearranges r (s ∷ xs) = either (behind_rearranges r xs) (int_eq s.top r.top)
-  where
-    either : IsPermutation (r ∷ xs) (behind_band r xs) → (b : Bool) → IsPermutation (r ∷ s ∷ xs) (cond b (s ∷ behind_band r xs) (r ∷ s ∷ xs))
-    either next true = IsPermutation-trans (r ∷ s ∷ xs) (s ∷ r ∷ xs) (s ∷ behind_band r xs) (IsPermutation-sym (s ∷ r ∷ xs) (r ∷ s ∷ xs) (IsPermutation-middle (s ∷ []) r xs)) (IsPermutation-cons s (r ∷ xs) (behind_band r xs) next)
-    either next false = IsPermutation-refl (r ∷ s ∷ xs)
-
-pub turned_rearranges : (rects : List Rect) → IsPermutation rects (turned rects)
-turned_rearranges [] = IsPermutation-refl []
-turned_rearranges (r ∷ rects) = IsPermutation-trans (r ∷ rects) (r ∷ turned rects) (behind_band r (turned rects)) (IsPermutation-cons r rects (turned rects) (turned_rearranges rects)) (behind_rearranges r (turned rects))

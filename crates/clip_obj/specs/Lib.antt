@@ -1,3 +1,5 @@
 pub mod Order
+pub mod OrderLaws
 pub mod Clip
 pub mod Complexity
+pub mod InnerOrder

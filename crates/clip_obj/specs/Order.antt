@@ -1,5 +1,5 @@
 -- The orders in which the rectangles of a clip are handed out.
-use Rattle.std.specs.Prelude.{◌≡◌, ◌<ℤ◌, ◌≤ℤ◌, ◌⊎◌, ℤ, List, [], ◌∷◌, if◌then◌else◌, reverse}
+use Rattle.std.specs.Prelude.{◌≡◌, ◌<ℤ◌, ◌≤ℤ◌, ◌⊎◌, List, [], ◌∷◌, if◌then◌else◌, reverse}
 use Rattle.std.specs.Ordering.{int_eq}
 use Rattle.geom_base.specs.declared.rect.Rect.{Rect}
 use Rattle.clip_obj.specs.declared.direction.Direction.{Direction}
@@ -34,8 +34,3 @@ ComesBefore LeftDown a b = (ShareBand a b × (b.right <ℤ a.left)) ⊎ (a.botto
 ComesBefore RightUp a b = (ShareBand a b × (a.right <ℤ b.left)) ⊎ (b.bottom ≤ℤ a.top)
 ComesBefore LeftUp a b = (ShareBand a b × (b.right <ℤ a.left)) ⊎ (b.bottom ≤ℤ a.top)
 ComesBefore Any a b = (ShareBand a b × (a.right <ℤ b.left)) ⊎ (a.bottom ≤ℤ b.top)
-
--- the first rectangle, if any, begins in another row
-abbrev pub BeginsElsewhere : ℤ → List Rect → Type 0
-BeginsElsewhere top [] = Unit {0}
-BeginsElsewhere top (r ∷ rects) = ¬ (r.top ≡ top)

@@ -11,12 +11,12 @@ ghost use Rattle.clip_obj.specs.Complexity.{IsComplexity};
 ghost use Rattle.clip_obj.specs.Order.{ordered, ComesBefore};
 
 use crate::batch::fill_batch;
+use crate::clipped::clipped_rects;
 use crate::complexity::Complexity;
 use crate::direction::Direction;
-use crate::frame::{clipped_rects, is_whole};
 use crate::turned::turned_rects;
 use geom_base::Rect;
-use region::Region;
+use region::{Region, fills_bounds};
 use std::alloc::{AllocError, Global};
 use std::marker::Model;
 
@@ -33,6 +33,7 @@ pub struct ClipObj {
 impl Model for ClipObj {
     ghost use Rattle.std.specs.Prelude.{◌≡◌, ◌≤◌, length, drop, All};
     ghost use Rattle.region.specs.Region.{IsRegion};
+    ghost use Rattle.region.specs.Order.{IsInOrder};
     ghost use Rattle.clip_obj.specs.Clip.{Clip, LiesWithin};
     ghost use Rattle.clip_obj.specs.Order.{ordered, turned};
 
@@ -40,7 +41,8 @@ impl Model for ClipObj {
 
     ghost view = { λ c. record { bounds = c.bounds; rects = c.rects.items; left = drop c.done (ordered c.direction c.rects.items) } };
 
-    ghost invariant = { λ c. IsRegion c.rects.items × All (LiesWithin c.bounds) c.rects.items × (c.from_right.items ≡ turned c.rects.items) × (c.done ≤ length c.rects.items) };
+    ghost invariant = { λ c. IsRegion c.rects.items × IsInOrder c.rects.items × All (LiesWithin c.bounds) c.rects.items ×
+        (c.from_right.items ≡ turned c.rects.items) × (c.done ≤ length c.rects.items) };
 }
 
 impl ClipObj {
@@ -72,7 +74,7 @@ impl ClipObj {
     pub fn complexity(&self) -> Complexity
         ensures { IsComplexity self.now result }
     {
-        if is_whole(&self.rects, &self.bounds) {
+        if fills_bounds(&self.rects, &self.bounds) {
             return Complexity::Trivial;
         }
         if self.rects.len() == 1 {

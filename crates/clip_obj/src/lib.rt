@@ -7,9 +7,9 @@
 
 mod batch;
 mod clip;
+mod clipped;
 mod complexity;
 mod direction;
-mod frame;
 mod turned;
 
 pub use clip::ClipObj;

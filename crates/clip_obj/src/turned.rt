@@ -1,7 +1,8 @@
 //! Bands from the right.
 
 ghost use Rattle.std.specs.Prelude.{◌≡◌, ◌<◌, ◌≤◌, ◌++◌, length, take, drop, reverse, All, IfOk, OnOk};
-ghost use Rattle.clip_obj.specs.Order.{turned, BeginsElsewhere};
+ghost use Rattle.clip_obj.specs.Order.{turned};
+ghost use Rattle.clip_obj.specs.InnerOrder.{BeginsElsewhere};
 
 use geom_base::Rect;
 use std::alloc::{AllocError, Global};

@@ -7,7 +7,7 @@ use Rattle.desk_io.specs.declared.reading.ReadRefusal.{ReadRefusal}
 use Rattle.desk_io.specs.declared.reading.ReadRefusal.TheVariants.{Fault, Size, NoMemory}
 
 -- so many of the bytes were given, and stand at the front of the buffer; none were given only at the end
-pub record Given (bytes : List ℕ) (left : Option (List ℕ)) (buf : List ℕ) (n : ℕ) : Type 0 where
+pub record GivesBytes (bytes : List ℕ) (left : Option (List ℕ)) (buf : List ℕ) (n : ℕ) : Type 0 where
   pub there : n ≤ length bytes
   pub given : take n buf ≡ take n bytes
   pub after : left ≡ Some (drop n bytes)
@@ -15,7 +15,7 @@ pub record Given (bytes : List ℕ) (left : Option (List ℕ)) (buf : List ℕ) 
 
 -- a read of a source that has these bytes left
 abbrev pub TakesFrom : List ℕ → Option (List ℕ) → List ℕ → Result ℕ ReadFault → Type 0
-TakesFrom bytes left buf (Ok n) = Given bytes left buf n
+TakesFrom bytes left buf (Ok n) = GivesBytes bytes left buf n
 TakesFrom bytes left buf (Err e) = left ≡ Some bytes
 
 abbrev pub FitsIn : List ℕ → Result ℕ ReadFault → Type 0

@@ -1,95 +1,109 @@
-use Rattle.std.proofs.Common.{◌≡◌, ℕ, ◌*◌, ◌+◌, ◌/◌, ◌%◌, ◌++◌, ◌∷◌, [], ◌<◌, Bool, List, get_or, take, length, Option, Some, None, Bor, refl, sym, ap, ◌∙◌}
+-- What was drawn on bits is drawn on the surface that they hold.
+use Rattle.std.proofs.Common.{◌≡◌, ℕ, ◌*◌, ◌+◌, ◌/◌, ◌%◌, ◌++◌, ◌∷◌, [], ◌<◌, List, get_or, take, length, Option, Some, None, Bor, refl, sym, ap, ◌∙◌}
 use Rattle.std.specs.Option.{option_copied}
-use Rattle.std.specs.Prelude.{unwrap_or}
+use Rattle.std.specs.Prelude.{option_map, unwrap_or}
 use Rattle.std.specs.Vec.{with_items}
 use Rattle.std.proofs.lemmas.List.{take_more, with_items_is}
+use Rattle.std.proofs.lemmas.Nat.{div-add-mod'}
 use Rattle.geom_base.specs.declared.point.Point.{Point}
-use Rattle.geom_base.specs.declared.size.Size.{Size}
 use Rattle.geom_base.specs.declared.target.Target.{Target}
+use Rattle.pix_format.specs.Value.{colours_of}
+use Rattle.pix_format.specs.Xlate.{Translation}
+use Rattle.pix_format.specs.declared.format.Format.{Format}
 use Rattle.pix_format.specs.declared.rgb.Rgb.{Rgb}
-use Rattle.surf_obj.specs.Changes.{Change, changed}
-use Rattle.surf_obj.specs.Layout.{Layout, values_in}
+use Rattle.surf_obj.specs.Layout.{values_in}
 use Rattle.surf_obj.specs.Object.{object_bytes}
-use Rattle.surf_obj.specs.Surface.{Surface, redrawn}
+use Rattle.surf_obj.specs.Surface.{Surface}
+use Rattle.surf_obj.specs.declared.layout.Layout.{Layout}
 use Rattle.surf_obj.specs.declared.object.SurfObj.{SurfObj}
 use Rattle.surf_obj.specs.declared.view.LentView.{LentView}
-use Rattle.blt_kernel.specs.Given.{IsMask}
-use Rattle.desk_run.specs.declared.inputs.Inputs.{Inputs}
-use Rattle.desk_run.specs.declared.source.Source.{Source}
-use Rattle.desk_run.specs.declared.source.Source.TheVariants.{Nothing, Own, Other}
-use Rattle.pix_format.specs.declared.format.Format.{Format}
-use Rattle.pix_format.specs.Xlate.{Translation}
-use Rattle.desk_run.specs.Drawing.{CopiesFrom, DrawsWith, IsSourceOf, IsViewOf, LeadsFrom, held_for, lent_from, operands_with, source_from}
-use Rattle.std.proofs.lemmas.Nat.{div-add-mod'}
+use Rattle.brush_obj.specs.Calls.{as_kept, held_of, new_of_call, shown}
+use Rattle.brush_obj.specs.declared.draw_call.DrawCall.{DrawCall}
+use Rattle.brush_obj.specs.declared.draw_call.DrawCall.TheVariants.{Blt, Copy, Paint}
+use Rattle.blt_kernel.specs.Handed.{TranslatesFrom, mask_of, source_of}
+use Rattle.eng_calls.specs.Inputs.{drawn_with, IsGiven, Suits, translated_by}
+use Rattle.eng_calls.specs.declared.inputs.Inputs.{Inputs}
+use Rattle.desk_run.specs.declared.inputs.CanvasInputs.{CanvasInputs}
+use Rattle.desk_run.specs.Desk.{shown_by, translation}
+use Rattle.desk_run.specs.InnerDrawing.{Look, look_of, look_of_view, operands_with, source_held, translation_for}
 
 -- the surface that bytes hold
 abbrev pub surface_on : Layout → List Rgb → List ℕ → Surface
 surface_on l table bytes = record { size = l.size; format = l.format; table = table; values = values_in l bytes }
 
--- what was drawn on bits is drawn on the surface that they hold
-pub drawn_on_bits : (l : Layout) (table : List Rgb) (bytes : List ℕ) (area : Point → Bool) (new : Change) (f : Layout) (bits after : List ℕ) → f ≡ l → bits ≡ bytes → values_in f after ≡ redrawn f.size (values_in f bits) area new →
-    surface_on l table after ≡ changed new area (surface_on l table bytes)
-drawn_on_bits l table bytes area new f bits after same held drawn = ap (λ (vs : List ℕ). record { size = l.size; format = l.format; table = table; values = vs }) (rw (same, held) at drawn)
-
--- what was lent is the source of the drawing
-pub source_lent : (s : Source) (t : Surface) (view : Option LentView) (lent : Option (Bor LentView)) → IsViewOf (lent_from s) view → option_copied lent ≡ view → IsSourceOf lent (held_for s) t.size t.values (source_from t s)
-source_lent Nothing t None None shows e = refl
-source_lent Nothing t None (Some v) shows e = absurd (cc)
-source_lent Nothing t (Some w) lent shows e = absurd shows
-source_lent Own t None None shows e = (refl, refl)
-source_lent Own t None (Some v) shows e = absurd (cc)
-source_lent Own t (Some w) lent shows e = absurd shows
-source_lent (Other s) t None lent shows e = absurd shows
-source_lent (Other s) t (Some w) None shows e = absurd (cc)
-source_lent (Other s) t (Some w) (Some v) shows e = let same : v.now ≡ w = cc in rw same (sym shows.0, sym shows.2)
-
--- and so is its mask
-pub mask_lent : (m : Option Surface) (view : Option LentView) (lent : Option (Bor LentView)) → IsViewOf m view → option_copied lent ≡ view → IsMask lent m
-mask_lent None None None shows e = refl
-mask_lent None None (Some v) shows e = absurd (cc)
-mask_lent None (Some w) lent shows e = absurd shows
-mask_lent (Some s) None lent shows e = absurd shows
-mask_lent (Some s) (Some w) None shows e = absurd (cc)
-mask_lent (Some s) (Some w) (Some v) shows e = let same : v.now ≡ w = cc in rw same (sym shows.0, sym shows.2)
-
--- a translation from the source leads from what was lent
-pub leads_from : (s : Source) (t : Surface) (format : Format) (held : Option Target) (view : Option LentView) (lent : Option (Bor LentView)) (xlate : Translation) → format ≡ t.format → held ≡ held_for s → IsViewOf (lent_from s) view → option_copied lent ≡ view →
-    xlate.from ≡ (unwrap_or (source_from t s) t).format → LeadsFrom lent held format xlate
-leads_from Nothing t format held None None xlate formats holds shows e from = rw holds tt
-leads_from Nothing t format held None (Some v) xlate formats holds shows e from = absurd (cc)
-leads_from Nothing t format held (Some w) lent xlate formats holds shows e from = absurd shows
-leads_from Own t format held None None xlate formats holds shows e from = rw holds (from ∙ sym formats)
-leads_from Own t format held None (Some v) xlate formats holds shows e from = absurd (cc)
-leads_from Own t format held (Some w) lent xlate formats holds shows e from = absurd shows
-leads_from (Other s) t format held None lent xlate formats holds shows e from = absurd shows
-leads_from (Other s) t format held (Some w) None xlate formats holds shows e from = absurd (cc)
-leads_from (Other s) t format held (Some w) (Some v) xlate formats holds shows e from = let same : v.now ≡ w = cc in rw same (from ∙ sym shows.1)
-
 -- the bytes of a surface after a loan
 pub bytes_after : (s : SurfObj) (lent new : List ℕ) → length new ≡ length lent → lent ≡ object_bytes s → (with_items s.bits new).items ≡ new
 bytes_after s lent new kept is = with_items_is s.bits new (kept ∙ ap length is ∙ sym s.bits.ok.0)
 
--- what a copy on bits is handed is what the surface is drawn on with
-pub copies_with : (i : Inputs) (xlate : Translation) (t : Surface) (size : Size) (format : Format) (values : List ℕ) (held : Option Target) (view : Option LentView) (lent : Option (Bor LentView)) →
-    size ≡ t.size → format ≡ t.format → values ≡ t.values → held ≡ held_for i.source → IsViewOf (lent_from i.source) view → option_copied lent ≡ view →
-    CopiesFrom size format values lent held xlate (operands_with t i xlate)
-copies_with i xlate t size format values held view lent sizes formats same holds shows is = record {
-  source = rw (sizes, same, holds) (source_lent i.source t view lent shows is);
-  translation = refl;
-  kept = sym formats;
-}
+-- what was lent looks like the surface that was handed
+abbrev pub LooksLike : Option (Bor LentView) → Option Surface → Type 0
+LooksLike lent handed = option_map look_of_view (option_copied lent) ≡ option_map look_of handed
 
--- and what a raster operation is handed
-pub draws_with : (i : Inputs) (xlate : Translation) (t : Surface) (size : Size) (format : Format) (values : List ℕ) (held : Option Target) (view mask_view : Option LentView) (lent mask : Option (Bor LentView)) →
-    size ≡ t.size → format ≡ t.format → values ≡ t.values → held ≡ held_for i.source → IsViewOf (lent_from i.source) view → option_copied lent ≡ view → IsViewOf (option_copied i.mask) mask_view → option_copied mask ≡ mask_view →
-    DrawsWith size format values lent held mask xlate t.table i.brush.now.face (operands_with t i xlate)
-draws_with i xlate t size format values held view mask_view lent mask sizes formats same holds shows is bits bits_are = record {
-  copies = copies_with i xlate t size format values held view lent sizes formats same holds shows is;
-  bits = mask_lent (option_copied i.mask) mask_view mask bits bits_are;
-  paints = record { face = refl; kept = sym formats; colours = refl };
-}
+-- so it is the source, or the mask, of the drawing
+source_lent : (lent : Option (Bor LentView)) (handed : Option Surface) (held : Option Target) (t : Surface) → LooksLike lent handed →
+    source_of lent held (shown t.size t.values) ≡ shown_by (source_held handed held t)
+source_lent None None None t e = refl
+source_lent None None (Some h) t e = refl
+source_lent (Some v) (Some s) held t e = let same : look_of_view v.now ≡ look_of s = cc in ap (λ (l : Look). shown l.0 l.2) same
+source_lent None (Some s) held t e = absurd (cc)
+source_lent (Some v) None held t e = absurd (cc)
+
+mask_lent : (lent : Option (Bor LentView)) (handed : Option Surface) → LooksLike lent handed → mask_of lent ≡ shown_by handed
+mask_lent None None e = refl
+mask_lent (Some v) (Some s) e = let same : look_of_view v.now ≡ look_of s = cc in ap (λ (l : Look). shown l.0 l.2) same
+mask_lent None (Some s) e = absurd (cc)
+mask_lent (Some v) None e = absurd (cc)
+
+-- and a translation from it leads from what was lent
+leads_from : (lent : Option (Bor LentView)) (handed : Option Surface) (held : Option Target) (t : Surface) (xlate : Translation) → LooksLike lent handed →
+    xlate.from ≡ (unwrap_or handed t).format → TranslatesFrom lent held t.format xlate
+leads_from None None None t xlate e from = tt
+leads_from None None (Some h) t xlate e from = from
+leads_from (Some v) (Some s) held t xlate e from = let same : look_of_view v.now ≡ look_of s = cc in from ∙ sym (ap (λ (l : Look). l.1) same)
+leads_from None (Some s) held t xlate e from = absurd (cc)
+leads_from (Some v) None held t xlate e from = absurd (cc)
+
+module _ (t : Surface) (i : CanvasInputs) (lent : Inputs) (table : lent.table.now ≡ t.table) (brush : lent.brush ≡ Some i.brush)
+    (source : LooksLike lent.source (option_copied i.source)) (mask : LooksLike lent.mask (option_copied i.mask)) where
+  abbrev from_source : Translation
+  from_source = translation (unwrap_or (option_copied i.source) t) t i.back
+
+  translates : (xlate : Option (Bor Translation)) (held : Option Target) → option_copied xlate ≡ Some from_source →
+      IsGiven xlate (λ x. TranslatesFrom lent.source held t.format x.now × (x.now.to ≡ t.format))
+  translates None held e = absurd (cc)
+  translates (Some x) held e = let same : x.now ≡
+      from_source = cc in rw same (leads_from lent.source (option_copied i.source) held t from_source source refl, refl)
+
+  same_xlate : (xlate : Option (Bor Translation)) (given : Point → Option ℕ) → option_copied xlate ≡ Some from_source →
+      translated_by xlate given ≡ as_kept from_source given
+  same_xlate None given e = absurd (cc)
+  same_xlate (Some x) given e = let same : x.now ≡ from_source = cc in ap (λ (y : Translation). as_kept y given) same
+
+  -- what was lent suits the call
+  pub suits : (call : DrawCall) → option_copied lent.xlate ≡ translation_for call from_source → length t.table ≡ colours_of t.format → Suits call lent t.format
+  suits (Blt c) e fits = (translates lent.xlate c.held e, rw (table, brush) fits)
+  suits (Copy c) e fits = translates lent.xlate c.held e
+  suits (Paint c) e fits = rw (table, brush) fits
+
+  -- and gives what the surfaces give
+  pub drawn_alike : (call : DrawCall) → option_copied lent.xlate ≡ translation_for call from_source →
+      new_of_call call (drawn_with lent (held_of call) (shown t.size t.values) t.format) ≡ new_of_call call (operands_with t (held_of call) i)
+  drawn_alike (Blt c) e =
+      rw (
+        same_xlate lent.xlate (source_of lent.source c.held (shown t.size t.values)) e,
+        source_lent lent.source (option_copied i.source) c.held t source,
+        mask_lent lent.mask (option_copied i.mask) mask,
+        table,
+        brush,
+      ) refl
+  drawn_alike (Copy c) e =
+      rw (same_xlate lent.xlate (source_of lent.source c.held (shown t.size t.values)) e, source_lent lent.source (option_copied i.source) c.held t source) refl
+  drawn_alike (Paint c) e = rw (table, brush) refl
 
 -- the value at a place in rows of a width
-pub next_value : (w : ℕ) (values taken : List ℕ) (i v : ℕ) → i < length values → taken ≡ take i values → v ≡ get_or values (i / w * w + i % w) 0 → taken ++ v ∷ [] ≡ take (i + 1) values
+pub next_value : (w : ℕ) (values taken : List ℕ) (i v : ℕ) → i < length values → taken ≡ take i values → v ≡ get_or values (i / w * w + i % w) 0 →
+    taken ++ v ∷ [] ≡ take (i + 1) values
 next_value w values taken i v lt so is =
-    ap (λ (xs : List ℕ). xs ++ v ∷ []) so ∙ ap (λ (n : ℕ). take i values ++ n ∷ []) (is ∙ ap (λ k. get_or values k 0) (div-add-mod' i w)) ∙ sym (take_more values i 0 lt)
+    ap (λ (xs : List ℕ). xs ++ v ∷ []) so
+    ∙ ap (λ (n : ℕ). take i values ++ n ∷ []) (is ∙ ap (λ k. get_or values k 0) (div-add-mod' i w))
+    ∙ sym (take_more values i 0 lt)

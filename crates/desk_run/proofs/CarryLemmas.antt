@@ -1,19 +1,19 @@
-use Rattle.std.proofs.Common.{◌≡◌, ℕ, Bool, true, false, List, [], ◌∷◌, ◌++◌, Option, Some, None, Result, Ok, Err, refl, sym, ap, ◌∙◌, append-nil, arith}
-use Rattle.std.specs.Prelude.{OnErr, is_ok, option_map, slice_set, nat_eq, if◌then◌else◌}
+use Rattle.std.proofs.Common.{◌≡◌, ℕ, Bool, true, List, [], ◌∷◌, Option, Some, None, refl, sym, ap, ◌∙◌, append-nil, arith}
+use Rattle.std.specs.Prelude.{option_map, slice_set, nat_eq, if◌then◌else◌}
 use Rattle.std.proofs.lemmas.Bool.Decides.{nat_tests}
 use Rattle.std.proofs.lemmas.List.{set-get_or}
-use Rattle.desk_io.specs.Sinks.{Puts, puts_as}
-use Rattle.surf_obj.specs.Surface.{Surface}
-use Rattle.surf_obj.specs.Changes.{changed_nowhere}
+use Rattle.desk_io.specs.SinkLaws.{puts_as}
+use Rattle.desk_io.specs.Sinks.{Puts}
+use Rattle.surf_obj.specs.Surface.{Surface, changed_nowhere}
 use Rattle.script_orders.specs.declared.desk_command.DeskCommand.{DeskCommand}
 use Rattle.script_orders.specs.declared.desk_command.Spot.{Spot}
 use Rattle.script_orders.specs.declared.desk_command.Spot.TheVariants as spots
 use Rattle.script_orders.specs.declared.script_command.ScriptCommand.TheVariants.{Draw}
-use Rattle.desk_run.specs.Desk.{State, bitmap_at, carried, drawn, drawn_on, name_of, new_of}
+use Rattle.desk_run.specs.Desk.{State, bitmap_at, drawn, drawn_on, name_of, new_of}
 use Rattle.desk_run.specs.Meeting.{Meets}
 use Rattle.desk_run.specs.Reports.{Told, memory, report_on, same_name}
 use Rattle.script_orders.specs.declared.named.Named.TheVariants.{Screen, Bitmap}
-use Rattle.desk_run.specs.Run.{Carried}
+use Rattle.desk_run.specs.InnerRun.{Carried}
 use Rattle.desk_run.specs.Texts.{BitmapNames, report_text}
 
 -- a report that nothing was drawn
@@ -44,17 +44,11 @@ undone s c (spots.Bitmap n) e =
     ∙ ap (λ (x : Option Surface). record s { bitmaps = slice_set s.bitmaps n x }) (undrawn_there s c (bitmap_at s n))
     ∙ ap (λ (xs : List (Option Surface)). record s { bitmaps = xs }) (set-get_or s.bitmaps n None)
 
-pub wanting_keeps : (s : State) (c : DeskCommand) → carried (Draw c) (wanting c ∷ []) s ≡ s
-wanting_keeps s c = undone s c c.target refl
-
 -- a drawing for which memory was wanting was reported
-pub reported : (names : BitmapNames) (n : ℕ) (c : DeskCommand) (s t : State) (line : List ℕ) (a b : Option (List ℕ)) (x y : ℕ) (f : Bool) → t ≡ s → Meets s c → line ≡ report_text names n (wanting c) → Puts line a b x y f → Carried names n (Draw c) s t a b x y f (wanting c ∷ [])
-reported names n c s t line a b x y f same meets is puts = record {
+pub reported : {names : BitmapNames} {n : ℕ} {c : DeskCommand} {s t : State} {line : List ℕ} {a b : Option (List ℕ)} {x y : ℕ} {f : Bool} →
+    t ≡ s → Meets s c → line ≡ report_text names n (wanting c) → Puts line a b x y f → Carried names n (Draw c) s t a b x y f (wanting c ∷ [])
+reported {names} {n} {c} {s} {t} {line} {a} {b} {x} {y} {f} same meets is puts = record {
   tells = record { target = refl; cause = refl; nothing = refl; meets = meets };
-  shows = same ∙ sym (wanting_keeps s c);
-  wrote = puts_as line (report_text names n (wanting c) ++ []) a b x y f puts (is ∙ sym (append-nil (report_text names n (wanting c))));
+  shows = same ∙ sym (undone s c c.target refl);
+  wrote = puts_as line _ a b x y f puts (is ∙ sym (append-nil (report_text names n (wanting c))));
 }
-
-pub at_err : {T E P : Type 0} (r : Result T E) → is_ok r ≡ false → OnErr r P → P
-at_err (Ok x) e p = absurd (cc)
-at_err (Err f) e p = p

@@ -15,38 +15,47 @@ hex_digits_more n value = rw add-one refl
 pub length-hex_digits : (n value : ℕ) → length (hex_digits n value) ≡ n
 unfolding hex_digits
 length-hex_digits zero value = refl
-length-hex_digits (suc n) value = let l = length-hex_digits n (value / 16) in let m = length-append (hex_digits n (value / 16)) (hex_digit (value % 16) ∷ []) in omega arith
+length-hex_digits (suc n) value = let l = length-hex_digits n (value / 16) in let m = length-append (hex_digits n (value / 16)) (hex_digit (value % 16) ∷ []) in
+    omega arith
 
 pub no_digits : (value : ℕ) → hex_digits 0 value ≡ []
 unfolding hex_digits
 no_digits value = refl
 
 -- one more digit stands in its place
-pub digit_put : (cell all : List ℕ) (k rest : ℕ) → 0 < k → k ≤ length cell → hex_digits k rest ++ drop k cell ≡ all → hex_digits (k - 1) (rest / 16) ++ drop (k - 1) (set cell (k - 1) (hex_digit (rest % 16))) ≡ all
+pub digit_put : (cell all : List ℕ) (k rest : ℕ) → 0 < k → k ≤ length cell → hex_digits k rest ++ drop k cell ≡ all →
+    hex_digits (k - 1) (rest / 16) ++ drop (k - 1) (set cell (k - 1) (hex_digit (rest % 16))) ≡ all
 digit_put cell all zero rest low high so = absurd (omega arith)
 digit_put cell all (suc k) rest low high so =
     let e : suc k - 1 ≡ k = omega arith in
     let s : suc k ≡ k + 1 = omega arith in
     rw (e, drop-set cell k (hex_digit (rest % 16)) (omega arith))
-    (sym (append_assoc (hex_digits k (rest / 16)) (hex_digit (rest % 16) ∷ []) (drop (k + 1) cell)) ∙ ap (λ (t : List ℕ). t ++ drop (k + 1) cell) (sym (hex_digits_more k rest)) ∙ (rw s at so))
+    (sym (append_assoc (hex_digits k (rest / 16)) (hex_digit (rest % 16) ∷ []) (drop (k + 1) cell))
+    ∙ ap (λ (t : List ℕ). t ++ drop (k + 1) cell) (sym (hex_digits_more k rest)) ∙ (rw s at so))
 
 -- one more cell of a row
-pub cell_put : (line values cell : List ℕ) (digits i k d : ℕ) → i < length values → length line ≡ digits * length values + 1 → k ≡ digits * i + digits - digits * i → cell ≡ hex_digits (length (take k (drop (digits * i) line))) (get_or values i d) →
-    take (digits * i) line ≡ flat_map (hex_digits digits) (take i values) → take (digits * (i + 1)) (put_mid (digits * i) k line cell) ≡ flat_map (hex_digits digits) (take (i + 1) values)
+pub cell_put : (line values cell : List ℕ) (digits i k d : ℕ) → i < length values → length line ≡ digits * length values + 1 →
+    k ≡ digits * i + digits - digits * i → cell ≡ hex_digits (length (take k (drop (digits * i) line))) (get_or values i d) →
+    take (digits * i) line ≡ flat_map (hex_digits digits) (take i values) →
+    take (digits * (i + 1)) (put_mid (digits * i) k line cell) ≡ flat_map (hex_digits digits) (take (i + 1) values)
 cell_put line values cell digits i k d lt long wide is so =
     let same : k ≡ digits = omega (arith, wide) in
     let more : digits * (i + 1) ≡ digits * i + digits = rw (add-one, mul-suc digits i) refl in
     let room : digits * (i + 1) ≤ digits * length values = mul-le-mul_left digits (let h : i + 1 ≤ length values = omega arith in h) in
-    let inside : length (take k (drop (digits * i) line)) ≡ digits = length-take k (drop (digits * i) line) ∙ (let m = length-drop (digits * i) line in omega arith) in
+    let inside : length (take k (drop (digits * i) line)) ≡ digits = length-take k (drop (digits * i) line)
+    ∙ (let m = length-drop (digits * i) line in omega arith) in
     let here : cell ≡ hex_digits digits (get_or values i d) = is ∙ ap (λ n. hex_digits n (get_or values i d)) inside in
     let l : length cell ≡ digits = ap length here ∙ length-hex_digits digits (get_or values i d) in
     take-put_mid (digits * i) k line cell (digits * (i + 1)) (omega arith) (omega arith)
     ∙ rw (so, here) refl
-    ∙ sym (ap (flat_map (hex_digits digits)) (take_more values i d lt) ∙ flat_map-append (hex_digits digits) (take i values) (get_or values i d ∷ []) ∙ ap (λ (t : List ℕ). flat_map (hex_digits digits) (take i values) ++ t) (append-nil (hex_digits digits (get_or values i d))))
+    ∙ sym (ap (flat_map (hex_digits digits)) (take_more values i d lt) ∙ flat_map-append (hex_digits digits) (take i values) (get_or values i d ∷ [])
+    ∙ ap (λ (t : List ℕ). flat_map (hex_digits digits) (take i values) ++ t) (append-nil (hex_digits digits (get_or values i d))))
 
 -- the row ends after its last cell
-pub row_end : (line values : List ℕ) (digits i : ℕ) → length values ≤ i → i ≤ length values → length line ≡ digits * length values + 1 → take (digits * i) line ≡ flat_map (hex_digits digits) (take i values) → set line (digits * length values) 10 ≡ row_text digits values
+pub row_end : (line values : List ℕ) (digits i : ℕ) → length values ≤ i → i ≤ length values → length line ≡ digits * length values + 1 →
+    take (digits * i) line ≡ flat_map (hex_digits digits) (take i values) → set line (digits * length values) 10 ≡ row_text digits values
 row_end line values digits i past within long so =
     let e : i ≡ length values = omega arith in
-    let all : take (digits * length values) line ≡ flat_map (hex_digits digits) values = rw (e) at so ∙ ap (flat_map (hex_digits digits)) (take_all (length values) values (le_refl _)) in
+    let all : take (digits * length values) line ≡ flat_map (hex_digits digits) values = rw (e) at so
+    ∙ ap (flat_map (hex_digits digits)) (take_all (length values) values (le_refl _)) in
     set_split line (digits * length values) 10 (omega arith) ∙ rw (all, drop_all (suc (digits * length values)) line (omega arith)) refl

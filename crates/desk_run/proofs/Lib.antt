@@ -4,13 +4,9 @@ pub mod CarryLemmas
 pub mod ConfigLemmas
 pub mod DeskLemmas
 pub mod DrawLemmas
-pub mod DumpLemmas
-pub mod FillLemmas
 pub mod FrameLemmas
 pub mod HexLemmas
 pub mod HistoryLemmas
 pub mod InputLaws
-pub mod PutLemmas
 pub mod RowCopyLemmas
 pub mod RowLemmas
-pub mod RunLemmas

@@ -1,35 +1,78 @@
-use Rattle.std.proofs.Common.{◌≡◌, ℕ, suc, ◌+◌, ◌-◌, ◌*◌, ◌<◌, ◌≤◌, List, [], ◌++◌, take, drop, arith, refl, sym, ap, ◌∙◌, Option, Bool, true, false}
-use Rattle.std.proofs.lemmas.List.{drop-drop}
+-- Rows of values that are written or summed one after the other.
+use Rattle.std.proofs.Common.{◌≡◌, ℕ, zero, suc, ◌+◌, ◌-◌, ◌*◌, ◌<◌, ◌≤◌, List, [], ◌∷◌, ◌++◌, take, drop, get_or, length, arith, refl, sym, ap, ◌∙◌, Option, true, false, append_assoc, append-nil, length-take, length-drop, pos, ◌+ℤ◌, unsigned_abs}
+use Rattle.std.proofs.lemmas.List.{drop-drop, same_lists, get_or_default, take_all, get_or-take, get_or-drop}
+use Rattle.std.proofs.lemmas.List.Sums.{fold-append}
+use Rattle.std.proofs.Math.Nat.{mul-le-mul_right, mul_comm}
+use Rattle.std.proofs.Math.Seq.{take-add}
+use Rattle.std.proofs.lemmas.Int.{ints}
+use Rattle.geom_base.specs.Grid.{value_of_point}
+use Rattle.geom_base.specs.declared.size.Size.{Size}
+use Rattle.desk_io.specs.SinkLaws.{puts_as, puts_on, puts_stopped}
 use Rattle.desk_io.specs.Sinks.{Puts}
-use Rattle.desk_run.specs.Texts.{row_text, rows_text}
-use Rattle.desk_run.proofs.PutLemmas.{Putting, putting_start, putting_more, putting_failed, putting_end, puts_to}
+use Rattle.desk_run.specs.Texts.{row_text, rows_text, sum_of, sum_on}
 
--- all rows are left, the next row, and no row
-pub rows_first : (digits w h : ℕ) (vs : List ℕ) → rows_text digits w h vs ≡ rows_text digits w (h - 0) (drop (0 * w) vs)
-rows_first digits w h vs = let a : h - 0 ≡ h = omega arith in let b : 0 * w ≡ 0 = omega arith in rw (a, b) refl
+-- some rows and then more
+rows_then : (digits w m n : ℕ) (vs : List ℕ) → rows_text digits w (m + n) vs ≡ rows_text digits w m vs ++ rows_text digits w n (drop (m * w) vs)
+rows_then digits w zero n vs = let e : zero * w ≡ 0 = omega arith in let f : zero + n ≡ n = omega arith in rw (e, f) refl
+rows_then digits w (suc m) n vs =
+    let e : suc m + n ≡ suc (m + n) = omega arith in
+    let f : m * w + w ≡ suc m * w = omega arith in
+    let g : drop (m * w) (drop w vs) ≡ drop (suc m * w) vs = drop-drop (m * w) w vs ∙ ap (λ k. drop k vs) (let k : w + m * w ≡ suc m * w = omega arith in k) in
+    rw (e, rows_then digits w m n (drop w vs), g)
+    (sym (append_assoc (row_text digits (take w vs)) (rows_text digits w m (drop w vs)) (rows_text digits w n (drop (suc m * w) vs))))
 
-pub rows_next : (digits w h y : ℕ) (vs : List ℕ) → y < h → rows_text digits w (h - y) (drop (y * w) vs) ≡ row_text digits (take w (drop (y * w) vs)) ++ rows_text digits w (h - (y + 1)) (drop ((y + 1) * w) vs)
-rows_next digits w h y vs lt =
-    let a : h - y ≡ suc (h - (y + 1)) = omega arith in
-    let b : y * w + w ≡ (y + 1) * w = omega arith in
-    let c : drop w (drop (y * w) vs) ≡ drop ((y + 1) * w) vs = drop-drop w (y * w) vs ∙ ap (λ n. drop n vs) b in
-    rw a (ap (λ (t : List ℕ). row_text digits (take w (drop (y * w) vs)) ++ rows_text digits w (h - (y + 1)) t) c)
+row_more : (digits w y : ℕ) (vs : List ℕ) → rows_text digits w (y + 1) vs ≡ rows_text digits w y vs ++ row_text digits (take w (drop (y * w) vs))
+row_more digits w y vs = rows_then digits w y 1 vs ∙ ap (λ (t : List ℕ). rows_text digits w y vs ++ t) (append-nil (row_text digits (take w (drop (y * w) vs))))
 
-pub rows_last : (digits w h y : ℕ) (vs : List ℕ) → h ≤ y → rows_text digits w (h - y) (drop (y * w) vs) ≡ []
-rows_last digits w h y vs le = let a : h - y ≡ 0 = omega arith in rw a refl
+-- one row more was written, or failed
+module _ (digits w h y : ℕ) (vs : List ℕ) {line row : List ℕ} {a b c : Option (List ℕ)} {i j k : ℕ} (is : line ≡ row_text digits row)
+    (read : row ≡ take w (drop (y * w) vs))
+    (so : Puts (rows_text digits w y vs) a b i j false) where
+  pub row_written : Puts line b c j k false → Puts (rows_text digits w (y + 1) vs) a c i k false
+  row_written one = puts_as _ _ a c i k false (puts_on _ _ a b c i j k false so (puts_as line _ b c j k false one (is ∙ ap (row_text digits) read)))
+      (sym (row_more digits w y vs))
 
--- rows that are written one after the other
-pub putting_first : (digits w h : ℕ) (vs : List ℕ) (a : Option (List ℕ)) (x : ℕ) → Putting (rows_text digits w h vs) (rows_text digits w (h - 0) (drop (0 * w) vs)) a a x x
-putting_first digits w h vs a x = rw (← rows_first digits w h vs) (putting_start (rows_text digits w h vs) a x)
+  pub row_failed : y < h → Puts line b c j k true → Puts (rows_text digits w h vs) a c i k true
+  row_failed lt one =
+      let all : y + 1 + (h - (y + 1)) ≡ h = omega arith in
+      puts_as _ _ a c i k true
+      (puts_stopped _ (rows_text digits w (h - (y + 1)) (drop ((y + 1) * w) vs)) a c i k
+      (puts_on _ _ a b c i j k true so (puts_as line _ b c j k true one (is ∙ ap (row_text digits) read))))
+      (ap (λ (t : List ℕ). t ++ rows_text digits w (h - (y + 1)) (drop ((y + 1) * w) vs)) (sym (row_more digits w y vs))
+      ∙ sym (rows_then digits w (y + 1) (h - (y + 1)) vs) ∙ ap (λ n. rows_text digits w n vs) all)
 
-pub putting_last : (digits w h n : ℕ) (vs : List ℕ) (a b : Option (List ℕ)) (x y : ℕ) → h ≤ n → Putting (rows_text digits w h vs) (rows_text digits w (h - n) (drop (n * w) vs)) a b x y → Puts (rows_text digits w h vs) a b x y false
-putting_last digits w h n vs a b x y le so = putting_end (rows_text digits w h vs) a b x y (rw (rows_last digits w h n vs le) at so)
+-- a row of a grid lies within it
+row_within : (w h y long : ℕ) → long ≡ w * h → y < h → y * w + w ≤ long
+row_within w h y long e hy =
+    let m : suc y * w ≤ h * w = mul-le-mul_right w (let k : suc y ≤ h = omega arith in k) in
+    let c : w * h ≡ h * w = mul_comm w h in
+    omega arith
 
-module _ (digits w h : ℕ) (vs : List ℕ) (a b c : Option (List ℕ)) (x y z : ℕ) where
-  pub putting_next : (n : ℕ) (line row : List ℕ) → n < h → line ≡ row_text digits row → row ≡ take w (drop (n * w) vs) → Putting (rows_text digits w h vs) (rows_text digits w (h - n) (drop (n * w) vs)) a b x y → (f : Bool) → false ≡ f → Puts line b c y z f → Putting (rows_text digits w h vs) (rows_text digits w (h - (n + 1)) (drop ((n + 1) * w) vs)) a c x z
-  putting_next n line row lt text is so f e one =
-      putting_more (rows_text digits w h vs) (row_text digits (take w (drop (n * w) vs))) (rows_text digits w (h - (n + 1)) (drop ((n + 1) * w) vs)) a b c x y z (rw (rows_next digits w h n vs lt) at so) (puts_to line _ b c y z f false (text ∙ ap (row_text digits) is) (sym e) one)
+length_row : (w h y : ℕ) (values : List ℕ) → length values ≡ w * h → y < h → length (take w (drop (y * w) values)) ≡ w
+length_row w h y values long hy =
+    let fit : y * w + w ≤ length values = row_within w h y (length values) long hy in
+    simp (length-take, length-drop) (omega arith)
 
-  pub putting_broken : (n : ℕ) (line row : List ℕ) → n < h → line ≡ row_text digits row → row ≡ take w (drop (n * w) vs) → Putting (rows_text digits w h vs) (rows_text digits w (h - n) (drop (n * w) vs)) a b x y → (f : Bool) → true ≡ f → Puts line b c y z f → Puts (rows_text digits w h vs) a c x z true
-  putting_broken n line row lt text is so f e one =
-      putting_failed (rows_text digits w h vs) (row_text digits (take w (drop (n * w) vs))) (rows_text digits w (h - (n + 1)) (drop ((n + 1) * w) vs)) a b c x y z (rw (rows_next digits w h n vs lt) at so) (puts_to line _ b c y z f true (text ∙ ap (row_text digits) is) (sym e) one)
+-- a list with the values of a row is that row
+pub row_read : (size : Size) (y : ℕ) (values row : List ℕ) → length values ≡ size.w * size.h → y < size.h → length row ≡ size.w →
+    ((k : ℕ) → k < length row → get_or row k 0 ≡ value_of_point size values (record { x = pos 0 +ℤ pos k; y = pos y })) →
+    row ≡ take size.w (drop (y * size.w) values)
+row_read size y values row long hy wide each =
+    same_lists row (take size.w (drop (y * size.w) values)) (wide ∙ sym (length_row size.w size.h y values long hy)) (λ k d below.
+    let column : unsigned_abs (pos 0 +ℤ pos k) ≡ k = grind (arith, ints) in
+    get_or_default row k d 0 below ∙ each k below ∙ ap (λ n. get_or values (y * size.w + n) 0) column
+    ∙ sym (get_or_default (take size.w (drop (y * size.w) values)) k d 0 (omega (arith, length_row size.w size.h y values long hy))
+    ∙ get_or-take size.w (drop (y * size.w) values) k 0 (omega arith) ∙ get_or-drop (y * size.w) values k 0))
+
+-- a sum with one row more
+pub sum_more : (w y : ℕ) (values : List ℕ) → sum_on (sum_of (take (y * w) values)) (take w (drop (y * w) values)) ≡ sum_of (take ((y + 1) * w) values)
+sum_more w y values =
+    sym (fold-append _ 0 (take (y * w) values) (take w (drop (y * w) values)))
+    ∙ ap sum_of (sym (take-add (y * w) w values) ∙ ap (λ n. take n values) (let on : y * w + w ≡ (y + 1) * w = grind arith in on))
+
+-- all rows are all values
+pub all_rows : (w h y : ℕ) (values : List ℕ) → length values ≡ w * h → h ≤ y → take (y * w) values ≡ values
+all_rows w h y values long past =
+    let m : h * w ≤ y * w = mul-le-mul_right w past in
+    let c : w * h ≡ h * w = mul_comm w h in
+    take_all (y * w) values (omega arith)

@@ -29,15 +29,15 @@ pub record Call : Type 0 where
   pub write_faults_after : ℕ
 
 -- what the words ask for
-pub data Form : Type 0 where
-  run : Form
+pub data WordsForm : Type 0 where
+  run : WordsForm
 
-abbrev pub form_of : List (List ℕ) → Option Form
+abbrev pub form_of : List (List ℕ) → Option WordsForm
 form_of (word ∷ []) = if bytes_eq word (codes "run") then Some run else None
 form_of _ = None
 
 -- the input of a form, or its refusal; none where the words are in no form
-abbrev pub input_of : Option Form → List ℕ → Option (Result Checked InputRefusal)
+abbrev pub input_of : Option WordsForm → List ℕ → Option (Result Checked InputRefusal)
 input_of None bytes = None
 input_of (Some run) bytes = Some (checked bytes)
 
@@ -99,10 +99,10 @@ pub record NoRise (c : Call) : Type 0 where
   pub reading : Rose c.read_faults c.read_faults_after → ⊥
   pub writing : Rose c.write_faults c.write_faults_after → ⊥
 
--- then the answer is what is due, or want of memory
-abbrev pub IsWhole : Option Status → Status → Type 0
-IsWhole (Some t) s = (s ≡ t) ⊎ (s ≡ NoMemory)
-IsWhole None s = (s ≡ Done) ⊎ ((s ≡ MemorySeen) ⊎ (s ≡ NoMemory))
+-- the answer is what is due, or want of memory
+abbrev pub IsDueOrMemory : Option Status → Status → Type 0
+IsDueOrMemory (Some t) s = (s ≡ t) ⊎ (s ≡ NoMemory)
+IsDueOrMemory None s = (s ≡ Done) ⊎ ((s ≡ MemorySeen) ⊎ (s ≡ NoMemory))
 
 -- the answer of the top call
 pub record Answered (c : Call) (input : Option (Result Checked InputRefusal)) (s : Status) : Type 0 where
@@ -111,18 +111,6 @@ pub record Answered (c : Call) (input : Option (Result Checked InputRefusal)) (s
   -- and by which count, where it came before that
   pub cause : HasCause c s
   -- where no count rises: what is due, or want of memory
-  pub complete : NoRise c → IsWhole (due_by input) s
+  pub complete : NoRise c → IsDueOrMemory (due_by input) s
   pub leaves : Leaves input c.written c.written_after c.write_faults c.write_faults_after s
   pub reads : Reads c s
-
--- The same of an input that was read: what the sink alone shows of it.
-pub record Ends (input : Option (Result Checked InputRefusal)) (old new : Option (List ℕ)) (before after : ℕ) (s : Status) : Type 0 where
-  pub comes : ComesBy s (due_by input)
-  pub read : s ≡ ReadFault → ⊥
-  pub cause : s ≡ WriteFault → Rose before after
-  pub complete : (Rose before after → ⊥) → IsWhole (due_by input) s
-  pub leaves : Leaves input old new before after s
-
--- the text of a status was written, and the status is answered; or the sink failed in it
-abbrev pub Says : Status → Option (List ℕ) → Option (List ℕ) → ℕ → ℕ → Status → Type 0
-Says s old new before after answer = ((answer ≡ s) × Puts (plain_text s) old new before after false) ⊎ ((answer ≡ WriteFault) × Puts (plain_text s) old new before after true)

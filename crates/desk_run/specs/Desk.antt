@@ -10,9 +10,11 @@ use Rattle.pix_format.specs.declared.rgb.Rgb.{Rgb}
 use Rattle.pix_format.specs.Standard.{standard_colours}
 use Rattle.pix_format.specs.Value.{black}
 use Rattle.pix_format.specs.Xlate.{Translation}
-use Rattle.surf_obj.specs.Changes.{Change, changed}
-use Rattle.surf_obj.specs.Surface.{Surface}
-use Rattle.brush_obj.specs.Calls.{Operands, new_of_call, reach_of_call}
+use Rattle.geom_base.specs.Step.{Change}
+use Rattle.surf_obj.specs.Surface.{Surface, changed}
+use Rattle.brush_obj.specs.Brush.{tiled}
+use Rattle.brush_obj.specs.Calls.{Operands, blt_operands, new_of_call, not_there, reach_of_call, shown}
+use Rattle.brush_obj.specs.Image.{Image}
 use Rattle.brush_obj.specs.declared.face.BrushFace.{BrushFace}
 use Rattle.brush_obj.specs.declared.face.BrushFace.TheVariants as faces
 use Rattle.script_orders.specs.declared.desk_command.BrushUse.{BrushUse}
@@ -58,15 +60,15 @@ abbrev pub row_like : Surface → List ℕ → Surface
 row_like t values = record { size = record { w = length values; h = 1 }; format = t.format; table = t.table; values = values }
 
 -- where a drawing on a surface takes its source from, as it was before the command
-abbrev pub source_of : State → Surface → Feed → Option Surface
-source_of s t feeds.Nothing = None
-source_of s t feeds.Desk = Some s.screen
-source_of s t (feeds.Bitmap n) = bitmap_at s n
-source_of s t (feeds.Row values) = Some (row_like t values)
+abbrev pub source_surface : State → Surface → Feed → Option Surface
+source_surface s t feeds.Nothing = None
+source_surface s t feeds.Desk = Some s.screen
+source_surface s t (feeds.Bitmap n) = bitmap_at s n
+source_surface s t (feeds.Row values) = Some (row_like t values)
 
-abbrev pub mask_of : State → Option ℕ → Option Surface
-mask_of s None = None
-mask_of s (Some n) = bitmap_at s n
+abbrev pub mask_surface : State → Option ℕ → Option Surface
+mask_surface s None = None
+mask_surface s (Some n) = bitmap_at s n
 
 -- what a drawing's brush looks like; one that isn't there is black
 abbrev pub face_of : State → BrushUse → BrushFace
@@ -74,20 +76,21 @@ face_of s uses.Nothing = faces.Solid black
 face_of s (uses.Colour colour) = faces.Solid colour
 face_of s (uses.Made n) = slice_index_or s.brushes n (faces.Solid black)
 
+-- the values of a surface, or none where there is no surface
+abbrev pub shown_by : Option Surface → Point → Option ℕ
+shown_by (Some s) = shown s.size s.values
+shown_by None = not_there
+
 -- the translation from one surface to another
 abbrev pub translation : Surface → Surface → Rgb → Translation
 translation s t back = record { from = s.format; from_table = s.table; to = t.format; to_table = t.table; back = back }
 
 -- what a drawing on a surface draws with
 abbrev pub operands_of : State → DeskCommand → Surface → Operands
-operands_of s c t = record {
-  source = source_of s t c.source;
-  mask = mask_of s c.mask;
-  xlate = translation (unwrap_or (source_of s t c.source) t) t c.back;
-  brush = face_of s c.brush;
-  format = t.format;
-  table = t.table;
-}
+operands_of s c t =
+    let source = source_surface s t c.source in
+    blt_operands (shown_by source) (shown_by (mask_surface s c.mask)) (translation (unwrap_or source t) t c.back)
+    (tiled (face_of s c.brush) t.format t.table) t.format
 
 -- the new value at a point of a surface that is drawn on, by the state before the command
 abbrev pub new_of : State → DeskCommand → Surface → Change
@@ -113,11 +116,15 @@ abbrev pub drawn_on : State → DeskCommand → List Told → Spot → State
 drawn_on s c told spots.Desk = record s { screen = drawn s c (report_on told (Screen 0)) s.screen }
 drawn_on s c told (spots.Bitmap n) = record s { bitmaps = slice_set s.bitmaps n (option_map (drawn s c (report_on told (Bitmap n))) (bitmap_at s n)) }
 
+-- a surface as the image of a pattern, with the background colour in force
+abbrev pub image_of : Surface → Rgb → Image
+image_of t back = record { size = t.size; format = t.format; table = t.table; values = t.values; back = back }
+
 -- what a brush is made of, on the desk as it is then; a pattern that isn't there is black
 abbrev pub face_made : State → Rgb → FaceOrder → BrushFace
 face_made s back (Solid colour) = faces.Solid colour
 face_made s back (Hatch kind fore other) = faces.Hatch kind fore other
-face_made s back (Pattern n) = unwrap_or (option_map (λ (t : Surface). faces.Pattern (record { picture = t; back = back })) (bitmap_at s n)) (faces.Solid black)
+face_made s back (Pattern n) = unwrap_or (option_map (λ (t : Surface). faces.Pattern (image_of t back)) (bitmap_at s n)) (faces.Solid black)
 
 -- the desk after a command with these reports
 abbrev pub carried : ScriptCommand → List Told → State → State

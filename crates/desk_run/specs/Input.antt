@@ -10,9 +10,9 @@ use Rattle.desk_run.specs.declared.status.InputRefusal.{InputRefusal}
 use Rattle.desk_run.specs.declared.status.InputRefusal.TheVariants.{Size as TooLong, Config, Script}
 use Rattle.desk_run.specs.Config.{config_of}
 use Rattle.script_words.specs.Asking.{◌>>=◌}
-use Rattle.script_words.specs.Lines.{lines_of, place_of}
-use Rattle.script_read.specs.State.{first_state}
-use Rattle.script_read.specs.Reading.{Refused as Refusal, read_lines, number_of_fault}
+use Rattle.script_words.specs.Lines.{lines_of, lines_before}
+use Rattle.script_read.specs.State.{first_reader_state}
+use Rattle.script_read.specs.Reading.{FirstRefusal, read_lines, number_of_refusal}
 
 -- what an accepted input asks for
 pub record Checked : Type 0 where
@@ -25,13 +25,13 @@ pub record IsSide (n : ℕ) : Type 0 where
   pub most : n ≤ 4096
 
 -- the first refusal of a script, with its line and its number
-abbrev pub refused_script : Result Asked Refusal → Result Asked InputRefusal
+abbrev pub refused_script : Result Asked FirstRefusal → Result Asked InputRefusal
 refused_script (Ok asked) = Ok asked
-refused_script (Err r) = Err (Script r.0 (number_of_fault r.1))
+refused_script (Err r) = Err (Script r.0 (number_of_refusal r.1))
 
 -- what the lines of a script ask for, the first of them being line n of the input
 abbrev pub script_of : ℕ → List (List ℕ) → Result Asked InputRefusal
-script_of n lines = refused_script (read_lines n 0 first_state lines)
+script_of n lines = refused_script (read_lines n 0 first_reader_state lines)
 
 -- so many lines are the configuration, then comes `%%`, and then the script; without that line it is no input
 abbrev pub checked_parts : Option ℕ → List (List ℕ) → Result Checked InputRefusal
@@ -45,7 +45,7 @@ checked_parts (Some n) lines = do
 unfoldable pub checked : List ℕ → Result Checked InputRefusal
 checked bytes =
     if nat_lt most_bytes (length bytes) then Err TooLong
-    else checked_parts (place_of (codes "%%") (lines_of bytes)) (lines_of bytes)
+    else checked_parts (lines_before (codes "%%") (lines_of bytes)) (lines_of bytes)
 
 -- what a value of the code says
 abbrev pub checked_of : Input → Checked

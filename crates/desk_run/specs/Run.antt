@@ -1,16 +1,12 @@
 -- A run: commands one after the other, and what is written of them.
-use Rattle.std.specs.Prelude.{◌≡◌, ℕ, ◌+◌, Bool, true, false, List, [], ◌∷◌, ◌++◌, length, map, take, drop, Option, Result, Ok, Err, ◌⊎◌, ◌==◌}
+use Rattle.std.specs.Prelude.{◌≡◌, ℕ, ◌+◌, Bool, true, false, List, [], ◌∷◌, ◌++◌, length, map, take, drop, Option, ◌⊎◌, ◌==◌}
 use Rattle.std.specs.List.{flat_map, list_all}
 use Rattle.std.specs.Option.{option_map_or}
-use Rattle.std.specs.declared.alloc.AllocError.{AllocError}
 use Rattle.desk_io.specs.Sinks.{Puts}
-use Rattle.desk_io.specs.declared.sink.WriteFault.{WriteFault as Fault}
 use Rattle.script_orders.specs.declared.desk_command.DeskCommand.{DeskCommand}
 use Rattle.script_orders.specs.declared.script_command.ScriptCommand.{ScriptCommand}
 use Rattle.script_orders.specs.declared.script_command.ScriptCommand.TheVariants.{Create, Delete, Brush, Draw, Dump, Sum, Nothing}
 use Rattle.desk_run.specs.declared.run.Ended.{Ended}
-use Rattle.desk_run.specs.declared.run.Given.{Given}
-use Rattle.desk_run.specs.declared.run.Given.TheVariants.{Whole, Wanting, Lacking, Broken}
 use Rattle.desk_run.specs.declared.run.Ended.TheVariants.{Done, MemorySeen, NoMemory, WriteFault}
 use Rattle.desk_run.specs.Reports.{Told, memory}
 use Rattle.desk_run.specs.Desk.{State, surface_at, name_of, carried}
@@ -100,34 +96,13 @@ abbrev pub WroteAs : BitmapNames → List ScriptCommand → State → List Entry
 WroteAs names commands s h old new x y Done = Puts (out names h s) old new x y false
 WroteAs names commands s h old new x y MemorySeen = Puts (out names h s) old new x y false
 WroteAs names commands s h old new x y NoMemory = Puts (body names 1 h s) old new x y false
-WroteAs names commands s h old new x y WriteFault = Puts (body names 1 h s) old new x y true ⊎ ((commands_of h ≡ commands) × Puts (out names h s) old new x y true)
+WroteAs names commands s h old new x y WriteFault = Puts (body names 1 h s) old new x y true
+    ⊎ ((commands_of h ≡ commands) × Puts (out names h s) old new x y true)
 
 -- a whole run: the commands that were carried out with their reports, and what was written of them
-pub record Ran (names : BitmapNames) (commands : List ScriptCommand) (s : State) (old new : Option (List ℕ)) (before after : ℕ) (ended : Ended) (h : List Entry) : Type 0 where
+pub record Ran (names : BitmapNames) (commands : List ScriptCommand) (s : State) (old new : Option (List ℕ)) (before after : ℕ) (ended : Ended)
+    (h : List Entry) : Type 0 where
   pub ends : EndsAs commands h ended
   pub tells : MayTellAll s h
   pub seen : SeenAs h ended
   pub wrote : WroteAs names commands s h old new before after ended
-
--- one command that was carried out with these reports, and what was written of it
-pub record Carried (names : BitmapNames) (n : ℕ) (command : ScriptCommand) (s t : State) (old new : Option (List ℕ)) (before after : ℕ) (failed : Bool) (told : List Told) : Type 0 where
-  pub tells : MayTell s command told
-  pub shows : t ≡ carried command told s
-  pub wrote : Puts (text_of names n command told s) old new before after failed
-
--- what carrying out a command gave: it is done whole; or it lacked memory and was reported, or is to make something; or the sink failed
-abbrev pub GaveAs : BitmapNames → ℕ → ScriptCommand → State → State → Option (List ℕ) → Option (List ℕ) → ℕ → ℕ → Given → Type 0
-GaveAs names n command s t old new x y Whole = Carried names n command s t old new x y false []
-GaveAs names n command s t old new x y Wanting = (told : Told) × Carried names n command s t old new x y false (told ∷ [])
-GaveAs names n command s t old new x y Lacking = Makes command × (t ≡ s) × (new ≡ old) × (y ≡ x)
-GaveAs names n command s t old new x y Broken = (told : List Told) × Carried names n command s t old new x y true told
-
--- a command that made something is done; one that didn't lacks memory
-abbrev pub MadeAs : Result (Unit {0}) AllocError → Given → Type 0
-MadeAs (Ok x) given = given ≡ Whole
-MadeAs (Err e) given = given ≡ Lacking
-
--- a command whose lines were written is done; else the sink failed
-abbrev pub WrittenAs : Result (Unit {0}) Fault → Given → Type 0
-WrittenAs (Ok x) given = given ≡ Whole
-WrittenAs (Err e) given = given ≡ Broken

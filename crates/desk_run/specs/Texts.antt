@@ -53,7 +53,8 @@ name_text names (Screen n) = decimal n
 name_text names (Bitmap n) = slice_index_or names n []
 
 abbrev pub head_text : BitmapNames → Named → SurfaceSize → Format → List ℕ
-head_text names q size format = codes "dump " ++ name_text names q ++ codes " " ++ decimal size.w ++ codes " " ++ decimal size.h ++ codes " " ++ format_text format ++ codes "\n"
+head_text names q size format =
+    codes "dump " ++ name_text names q ++ codes " " ++ decimal size.w ++ codes " " ++ decimal size.h ++ codes " " ++ format_text format ++ codes "\n"
 
 -- the lines of a dump: its head, and a line for each row
 abbrev pub dump_text : BitmapNames → Named → Surface → List ℕ
@@ -79,11 +80,15 @@ cause_text fault = codes "fault"
 cause_text memory = codes "memory"
 
 abbrev pub drawn_text : BitmapNames → Named → Rect → List ℕ
-drawn_text names q r = codes "drawn " ++ name_text names q ++ codes " " ++ signed_decimal r.left ++ codes " " ++ signed_decimal r.top ++ codes " " ++ signed_decimal r.right ++ codes " " ++ signed_decimal r.bottom ++ codes "\n"
+drawn_text names q r =
+    codes "drawn " ++ name_text names q ++ codes " " ++ signed_decimal r.left ++ codes " " ++ signed_decimal r.top
+    ++ codes " " ++ signed_decimal r.right ++ codes " " ++ signed_decimal r.bottom ++ codes "\n"
 
 -- the lines of a report of command n
 abbrev pub report_text : BitmapNames → ℕ → Told → List ℕ
-report_text names n t = codes "command " ++ decimal n ++ codes " " ++ cause_text t.cause ++ codes " " ++ name_text names t.target ++ codes " " ++ decimal (length t.rects) ++ codes "\n" ++ flat_map (drawn_text names t.target) t.rects
+report_text names n t =
+    codes "command " ++ decimal n ++ codes " " ++ cause_text t.cause ++ codes " " ++ name_text names t.target ++ codes " "
+    ++ decimal (length t.rects) ++ codes "\n" ++ flat_map (drawn_text names t.target) t.rects
 
 -- the last line of a run
 abbrev pub end_text : ℕ → List ℕ

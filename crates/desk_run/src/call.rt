@@ -3,7 +3,8 @@
 ghost use Rattle.std.specs.Prelude.{◌≡◌, ◌≤◌, ◌*◌, ◌+◌, ◌⊎◌, ℕ, List, Some, None, Ok, map, length, string_bytes, is_some, All};
 ghost use Rattle.desk_io.specs.Counts.{Rose};
 ghost use Rattle.desk_io.specs.Sources.{most_bytes};
-ghost use Rattle.desk_run.specs.Answers.{Answered, Ends, Says, form_of, input_of};
+ghost use Rattle.desk_run.specs.Answers.{Answered, form_of, input_of};
+ghost use Rattle.desk_run.specs.InnerAnswers.{Ends, Says, status_of};
 ghost use Rattle.script_orders.specs.Asked.{CanDo, IsSurfaceSize};
 ghost use Rattle.desk_run.specs.Input.{checked, checked_of};
 ghost use Rattle.desk_run.specs.declared.status.Status.TheVariants as status;
@@ -55,7 +56,7 @@ fn run_input<K: Sink>(alloc: Global, input: &Input<'_>, sink: &mut K) -> Status
         return Status::NoMemory;
     };
     let script = &input.script;
-    match run_all(
+    let ended = run_all(
         alloc,
         &mut desk,
         script,
@@ -63,7 +64,15 @@ fn run_input<K: Sink>(alloc: Global, input: &Input<'_>, sink: &mut K) -> Status
         &mut values,
         &mut line,
         sink,
-    ) {
+    );
+    status_of(ended)
+}
+
+/// The status of a run that ended so.
+fn status_of(ended: Ended) -> Status
+    ensures { result ≡ status_of ended }
+{
+    match ended {
         Ended::Done => Status::Done,
         Ended::MemorySeen => Status::MemorySeen,
         Ended::NoMemory => Status::NoMemory,

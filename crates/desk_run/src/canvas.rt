@@ -1,27 +1,24 @@
 //! The surfaces of the desk.
 
-ghost use Rattle.std.specs.Prelude.{◌≡◌, ◌<◌, ◌≤◌, ◌*◌, ◌^◌, All, false, length, IfOk, OnOk, OnErr, take, drop, unwrap_or};
+ghost use Rattle.std.specs.Prelude.{◌≡◌, ◌<◌, ◌≤◌, ◌+◌, ◌*◌, ◌^◌, All, length, option_map, IfOk, OnOk, OnErr, take, drop, unwrap_or};
 ghost use Rattle.std.specs.Option.{option_copied};
-ghost use Rattle.pix_format.specs.Value.{bits_of, colours_of};
-ghost use Rattle.brush_obj.specs.declared.face.BrushFace.TheVariants as faces;
 ghost use Rattle.geom_base.specs.Points.{is_in_some, LiesIn};
-ghost use Rattle.surf_obj.specs.Changes.{changed};
-ghost use Rattle.surf_obj.specs.Layout.{layout_from, row_bytes, HasSides};
-ghost use Rattle.surf_obj.specs.Object.{object_layout, object_bytes, object_size, object_format, object_values};
+ghost use Rattle.pix_format.specs.Value.{bits_of, colours_of};
+ghost use Rattle.surf_obj.specs.Surface.{changed};
 ghost use Rattle.surf_obj.specs.View.{view_size, view_format, view_values};
-ghost use Rattle.brush_obj.specs.Calls.{new_of_blt, new_of_copy, new_of_paint, Operands};
-ghost use Rattle.blt_kernel.specs.Given.{PaintsWith};
+ghost use Rattle.brush_obj.specs.Calls.{HoldsOwn, held_of, new_of_call, target_of};
+ghost use Rattle.brush_obj.specs.declared.face.BrushFace.TheVariants as faces;
 ghost use Rattle.script_orders.specs.Asked.{IsSurfaceSize};
-ghost use Rattle.desk_run.specs.Rows.{ShowsRow};
-ghost use Rattle.desk_run.specs.Desk.{blank};
-ghost use Rattle.desk_run.specs.Drawing.{source_from, operands_with, IsViewOf};
+ghost use Rattle.desk_run.specs.Desk.{blank, image_of, translation};
+ghost use Rattle.desk_run.specs.InnerDrawing.{look_of, look_of_view, operands_with, translation_for};
+ghost use Rattle.desk_run.specs.InnerRows.{ShowsRow};
 
-use crate::drawing::{Form, blt_on, copy_on, paint_on};
-use crate::inputs::Inputs;
+use crate::inputs::CanvasInputs;
 use crate::row::put_values;
-use brush_obj::{BltCall, BrushObj, CopyCall, PaintCall};
+use brush_obj::{BrushObj, DrawCall};
 use clip_obj::ClipObj;
-use geom_base::Size;
+use eng_calls::{Inputs, eng_draw};
+use geom_base::{Point, Size};
 use pix_format::{ColourTable, Format, Rgb, XlateObj};
 use std::alloc::{AllocError, Global};
 use std::marker::Model;
@@ -103,7 +100,7 @@ impl Canvas {
         requires places { length values.old ≡ self.now.size.w }
         ensures { values.new ≡ take self.now.size.w (drop (y * self.now.size.w) self.now.values) }
     {
-        self.pixels.read_run(0, y, values);
+        self.pixels.view().read_row(Point::at(0, y), values);
     }
 
     /// Its values, row by row.
@@ -112,9 +109,10 @@ impl Canvas {
         ensures fits { IfOk result (λ v. All (λ x. x < 2 ^ bits_of self.now.format) v.items) }
     {
         let Size { w, h } = self.pixels.size();
+        let view = self.pixels.view();
         let mut values = Vec::new(alloc);
         for i in 0..w * h {
-            values.push(self.pixels.pixel(i % w, i / w))?;
+            values.push(view.get(Point::at(i % w, i / w)))?;
         }
         Ok(values)
     }
@@ -122,7 +120,7 @@ impl Canvas {
     /// A brush that is a copy of it, with the background colour in force. No side is over 64; a larger one answers as for want of
     /// memory.
     pub fn pattern(&self, alloc: Global, back: Rgb) -> Result<BrushObj, AllocError>
-        ensures { IfOk result (λ b. b.face ≡ faces.Pattern (record { picture = self.now; back = back })) }
+        ensures { IfOk result (λ b. b.face ≡ faces.Pattern (image_of self.now back)) }
     {
         let size = self.pixels.size();
         if size.w > 64 || size.h > 64 {
@@ -136,115 +134,95 @@ impl Canvas {
         }
     }
 
-    /// A surface of one row like this one, with the low bits of these values.
-    pub fn row(&self, alloc: Global, values: &[u32]) -> Result<Canvas, AllocError>
-        requires some { 1 ≤ length values.now }
-        requires few { length values.now ≤ 4096 }
-        ensures { IfOk result (ShowsRow self.now values.now) }
+    /// A surface of one row like this one, with the low bits of so many values from one on.
+    pub fn row(
+        &self,
+        alloc: Global,
+        values: &[u32],
+        from: usize,
+        len: u32,
+    ) -> Result<Canvas, AllocError>
+        requires some { 1 ≤ len }
+        requires few { len ≤ 4096 }
+        requires values { from + len ≤ length values.now }
+        ensures { IfOk result (ShowsRow self.now values.now from len) }
     {
-        let size = Size {
-            w: values.len() as u32,
-            h: 1,
-        };
+        let size = Size { w: len, h: 1 };
         let table = ColourTable::of(alloc, self.table.colours())?;
         let mut pixels = SurfObj::new(alloc, size, self.pixels.format())?;
-        put_values(&mut pixels, values);
+        let layout = pixels.layout();
+        put_values(pixels.bits_mut(), layout, values, from);
         Ok(Canvas { pixels, table })
     }
 
-    /// Draws a raster operation in the rectangles of a clip that lies in the surface, by a translation from its source.
+    /// Draws a call in the rectangles of a clip that lies in the surface. The surface itself is the source where the call holds its
+    /// target and no other surface is handed.
     ///
     /// # Errors
     ///
     /// `AllocError` for want of memory; the surface is unchanged then.
-    pub fn blt(
+    pub fn draw(
         &mut self,
         alloc: Global,
-        call: &BltCall,
-        inputs: &Inputs<'_>,
-        xlate: &XlateObj,
+        call: &DrawCall,
+        inputs: &CanvasInputs<'_>,
         clip: &mut ClipObj,
     ) -> Result<(), AllocError>
-        requires from { xlate.now.from ≡ (unwrap_or (source_from self.old inputs.now.source) self.old).format }
-        requires to { xlate.now.to ≡ self.old.format }
+        requires held { HoldsOwn (held_of call.now) (target_of call.now) }
         requires inside { All (λ r. LiesIn r self.old.size) clip.old.rects }
-        ensures ok { OnOk result (self.new ≡ changed (new_of_blt call.now (operands_with self.old inputs.now xlate.now)) (λ p. is_in_some p clip.old.rects) self.old) }
+        ensures ok { let o = operands_with self.old (held_of call.now) inputs.now in
+            OnOk result (self.new ≡ changed (new_of_call call.now o) (λ p. is_in_some p clip.old.rects) self.old) }
         ensures err { OnErr result (self.new ≡ self.old) }
     {
-        let source_view = inputs.source.view();
-        let mask_view = view_of(inputs.mask);
-        let call = inputs.source.holding(call);
-        let form = form_of(&self.pixels);
-        blt_on(
+        let xlate = self.translation(alloc, call, inputs)?;
+        let source = view_of(inputs.source);
+        let mask = view_of(inputs.mask);
+        let layout = self.pixels.layout();
+        let lent = Inputs {
+            source: source.as_ref(),
+            mask: mask.as_ref(),
+            xlate: xlate.as_ref(),
+            table: &self.table,
+            brush: Some(inputs.brush),
+        };
+        eng_draw(alloc, self.pixels.bits_mut(), layout, call, &lent, clip)
+    }
+
+    /// The translation from the source of a call, where it has one.
+    fn translation(
+        &self,
+        alloc: Global,
+        call: &DrawCall,
+        inputs: &CanvasInputs<'_>,
+    ) -> Result<Option<XlateObj>, AllocError>
+        ensures { let from = unwrap_or (option_copied inputs.now.source) self.now in
+            IfOk result (λ x. x ≡ translation_for call.now (translation from self.now inputs.now.back)) }
+    {
+        if let DrawCall::Paint(_) = call {
+            return Ok(None);
+        }
+        let from = match inputs.source {
+            Some(source) => source,
+            None => self,
+        };
+        let xlate = XlateObj::build(
             alloc,
-            self.pixels.bits_mut(),
-            form,
-            &call,
-            source_view.as_ref(),
-            mask_view.as_ref(),
-            xlate,
+            from.format(),
+            &from.table,
+            self.format(),
             &self.table,
-            inputs.brush,
-            clip,
-        )
-    }
-
-    /// Draws a copy in the rectangles of a clip that lies in the surface, by a translation from its source.
-    pub fn copy(
-        &mut self,
-        call: &CopyCall,
-        inputs: &Inputs<'_>,
-        xlate: &XlateObj,
-        clip: &mut ClipObj,
-    )
-        requires from { xlate.now.from ≡ (unwrap_or (source_from self.old inputs.now.source) self.old).format }
-        requires to { xlate.now.to ≡ self.old.format }
-        requires inside { All (λ r. LiesIn r self.old.size) clip.old.rects }
-        ensures { self.new ≡ changed (new_of_copy call.now (operands_with self.old inputs.now xlate.now)) (λ p. is_in_some p clip.old.rects) self.old }
-    {
-        let source_view = inputs.source.view();
-        let call = inputs.source.copy_holding(call);
-        let form = form_of(&self.pixels);
-        copy_on(
-            self.pixels.bits_mut(),
-            form,
-            &call,
-            source_view.as_ref(),
-            xlate,
-            clip,
-        );
-    }
-
-    /// Draws a paint in the rectangles of a clip that lies in the surface.
-    pub fn paint(&mut self, call: &PaintCall, brush: &BrushObj, clip: &mut ClipObj)
-        requires { All (λ r. LiesIn r self.old.size) clip.old.rects }
-        ensures { (o : Operands) → PaintsWith self.old.format self.old.table brush.now.face o → self.new ≡ changed (new_of_paint call.now o) (λ p. is_in_some p clip.old.rects) self.old }
-    {
-        let form = form_of(&self.pixels);
-        paint_on(self.pixels.bits_mut(), form, call, &self.table, brush, clip);
+            inputs.back,
+        )?;
+        Ok(Some(xlate))
     }
 }
 
 /// The pixels of a surface that may not be there, to be read.
 fn view_of<'a>(canvas: Option<&'a Canvas>) -> Option<LentView<'a>>
-    ensures { IsViewOf (option_copied canvas.entry) result }
+    ensures { option_map look_of_view result ≡ option_map look_of (option_copied canvas.entry) }
 {
     match canvas {
         Some(canvas) => Some(canvas.view()),
         None => None,
-    }
-}
-
-/// How the bits of a surface hold it.
-fn form_of(pixels: &SurfObj) -> Form
-    ensures form { layout_from result.size result.format result.stride false ≡ object_layout pixels.now }
-    ensures row { row_bytes result.format result.size.w ≤ result.stride }
-    ensures rows { result.size.h * result.stride ≤ length (object_bytes pixels.now) }
-    ensures sides { HasSides result.size }
-{
-    Form {
-        size: pixels.size(),
-        format: pixels.format(),
-        stride: pixels.stride(),
     }
 }

@@ -2,28 +2,20 @@
 
 ghost use Rattle.std.specs.Prelude.{◌≡◌, IfOk, OnOk, OnErr, false};
 ghost use Rattle.std.specs.Option.{option_copied};
-ghost use Rattle.surf_obj.specs.Changes.{changed};
 ghost use Rattle.script_orders.specs.Asked.{CanCreate, CanDraw, IsSurfaceSize};
 ghost use Rattle.script_orders.specs.declared.script_command.ScriptCommand.TheVariants as asked;
-ghost use Rattle.desk_run.specs.Beside.{IsBeside};
-ghost use Rattle.desk_run.specs.Desk.{State, carried, drawn, face_made, first_state, surface_at};
-ghost use Rattle.desk_run.specs.Reports.{Told};
+ghost use Rattle.desk_run.specs.Desk.{State, carried, face_made, first_state, surface_at};
 ghost use Rattle.desk_run.specs.Meeting.{Meets};
-ghost use Rattle.desk_run.specs.Drawing.{Reaches};
 ghost use Rattle.std.specs.Prelude.{[], None};
 ghost use Rattle.script_orders.specs.declared.desk_command.Spot.TheVariants as spots;
 
 use crate::canvas::Canvas;
-use crate::draw::{draw_call, draw_row};
-use crate::inputs::Inputs;
-use crate::others::{BLACK, Others, plain_colour};
-use brush_obj::{BrushObj, DrawCall};
+use crate::draw::draw_beside;
+use crate::others::{BLACK, Others};
+use brush_obj::BrushObj;
 use geom_base::Size;
 use pix_format::{ColourTable, Format, Rgb};
-use region::Region;
-use script_orders::{
-    BrushOrder, CreateOrder, DeskCommand, FaceOrder, Feed, Named, NamedRegion, Spot,
-};
+use script_orders::{BrushOrder, CreateOrder, DeskCommand, FaceOrder, Named, Spot};
 use std::alloc::{AllocError, Global};
 use std::marker::Model;
 
@@ -37,7 +29,7 @@ pub struct Desk {
 }
 
 impl Model for Desk {
-    ghost use Rattle.desk_run.specs.Beside.{faces_of};
+    ghost use Rattle.desk_run.specs.InnerBeside.{faces_of};
     ghost use Rattle.desk_run.specs.Desk.{State};
 
     ghost Value = { State };
@@ -197,44 +189,4 @@ impl Desk {
         self.bitmaps[place] = Some(target);
         drawn
     }
-}
-
-/// The region of a clip, where there is one.
-fn region_of(clip: &Option<NamedRegion>) -> Option<&Region>
-    ensures { option_copied result ≡ clip.now }
-{
-    match clip {
-        Some(named) => Some(named.region()),
-        None => None,
-    }
-}
-
-/// Carries out a drawing on a surface, beside the rest of the desk.
-fn draw_beside(
-    alloc: Global,
-    target: &mut Canvas,
-    others: Others<'_>,
-    command: &DeskCommand,
-) -> Result<(), AllocError>
-    requires { CanDraw command.now }
-    ensures ok { OnOk result ((s : State) → IsBeside s command.now.target target.old others.entry → target.new ≡ drawn s command.now None target.old) }
-    ensures err { OnErr result (target.new ≡ target.old) }
-    ensures meets { OnErr result (Reaches command.now.clip command.now.call target.old.size) }
-{
-    let clip = region_of(&command.clip);
-    if let Feed::Row(values) = &command.source {
-        if let DrawCall::Copy(call) = &command.call {
-            return draw_row(alloc, target, call, values.items(), clip);
-        }
-        return Ok(());
-    }
-    let plain = BrushObj::solid(alloc, plain_colour(command.brush));
-    let inputs = Inputs {
-        source: others.source(command.target, &command.source),
-        mask: others.mask(command.mask),
-        brush: others.brush(command.brush, &plain),
-        back: command.back,
-        clip,
-    };
-    draw_call(alloc, target, &command.call, &inputs)
 }

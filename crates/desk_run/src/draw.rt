@@ -1,145 +1,156 @@
-//! One call on one surface.
+//! A drawing on one surface, beside the rest of the desk.
 
-ghost use Rattle.std.specs.Prelude.{◌≡◌, ◌&&◌, All, OnOk, OnErr, IfOk, unwrap_or};
+ghost use Rattle.std.specs.Prelude.{◌≡◌, ◌≤◌, ◌*◌, ◌↔◌, IsTrue, All, length, OnOk, OnErr};
 ghost use Rattle.std.specs.Option.{option_copied};
-ghost use Rattle.geom_base.specs.Points.{is_in, is_in_some, LiesIn};
-ghost use Rattle.surf_obj.specs.Changes.{changed};
-ghost use Rattle.brush_obj.specs.Calls.{Operands, new_of_call, new_of_copy, reach_of_call};
+ghost use Rattle.geom_base.specs.declared.point.Point.{Point};
+ghost use Rattle.geom_base.specs.Points.{HasPoints, IsIn, is_in_some, LiesIn, whole};
+ghost use Rattle.pix_format.specs.declared.rgb.Rgb.{Rgb};
+ghost use Rattle.surf_obj.specs.Surface.{changed};
+ghost use Rattle.brush_obj.specs.Calls.{new_of_copy};
 ghost use Rattle.brush_obj.specs.declared.draw_call.DrawCall.TheVariants.{Copy};
-ghost use Rattle.script_orders.specs.Asked.{RowIsCopied};
+ghost use Rattle.script_orders.specs.Asked.{CanDraw, RowIsCopied};
 ghost use Rattle.script_orders.specs.declared.desk_command.Feed.TheVariants.{Row};
-ghost use Rattle.desk_run.specs.Desk.{in_clip, translation};
-ghost use Rattle.desk_run.specs.Drawing.{operands_from, source_from, Reaches};
-ghost use Rattle.desk_run.specs.Rows.{CopiesRow};
+ghost use Rattle.desk_run.specs.Desk.{State, drawn, new_of};
+ghost use Rattle.desk_run.specs.Meeting.{Reaches};
+ghost use Rattle.desk_run.specs.InnerBeside.{IsBeside, IsNoRow};
+ghost use Rattle.desk_run.specs.InnerDrawing.{holding};
+ghost use Rattle.desk_run.specs.InnerRows.{row_operands};
 
 use crate::canvas::Canvas;
 use crate::frame::{frame_of, meets};
-use crate::inputs::Inputs;
-use crate::others::BLACK;
-use crate::row::{columns_before, width_of};
-use crate::source::Source;
-use brush_obj::{BrushObj, CopyCall, DrawCall};
+use crate::inputs::CanvasInputs;
+use crate::others::{BLACK, Others, is_own, plain_colour};
+use crate::row::columns_between;
+use brush_obj::{BltCall, BrushObj, CopyCall, DrawCall};
 use clip_obj::ClipObj;
-use geom_base::Point;
-use pix_format::{Rgb, XlateObj};
+use geom_base::{Point, Rect};
 use region::Region;
+use script_orders::{DeskCommand, Feed, NamedRegion};
 use std::alloc::{AllocError, Global};
 
 /// The first point of a surface.
 const ORIGIN: Point = Point { x: 0, y: 0 };
 
-/// Draws a call on a surface, in the clip.
+/// The region of a clip, where there is one.
+fn region_of(clip: &Option<NamedRegion>) -> Option<&Region>
+    ensures { option_copied result ≡ clip.now }
+{
+    match clip {
+        Some(named) => Some(named.region()),
+        None => None,
+    }
+}
+
+/// Carries out a drawing on a surface, beside the rest of the desk.
 ///
 /// # Errors
 ///
 /// `AllocError` for want of memory, where the call reaches a point of the surface in the clip; the surface is unchanged then.
-pub fn draw_call(
+pub fn draw_beside(
     alloc: Global,
     target: &mut Canvas,
-    call: &DrawCall,
-    inputs: &Inputs<'_>,
+    others: Others<'_>,
+    command: &DeskCommand,
 ) -> Result<(), AllocError>
-    ensures ok { OnOk result (target.new ≡ changed (new_of_call call.now (operands_from target.old inputs.now)) (λ p. in_clip (option_copied inputs.now.clip) p && reach_of_call call.now p) target.old) }
+    requires { CanDraw command.now }
+    ensures ok { OnOk result ((s : State) → IsBeside s command.now.target target.old others.entry → target.new ≡ drawn s command.now None target.old) }
     ensures err { OnErr result (target.new ≡ target.old) }
-    ensures meets { OnErr result (Reaches (option_copied inputs.now.clip) call.now target.old.size) }
+    ensures meets { OnErr result (Reaches command.now.clip command.now.call target.old.size) }
 {
-    let frame = frame_of(call.rect(), target.size());
-    if !meets(inputs.clip, &frame) {
+    let region = region_of(&command.clip);
+    let frame = frame_of(command.call.rect(), target.size());
+    if !meets(region, &frame) {
         return Ok(());
     }
-    let mut clip = ClipObj::build(alloc, inputs.clip, frame)?;
-    draw_clipped(alloc, target, call, inputs, &mut clip)
+    let mut clip = ClipObj::build(alloc, region, frame)?;
+    if let Feed::Row(values) = &command.source {
+        if let DrawCall::Copy(call) = &command.call {
+            return draw_row(alloc, target, call, values.items(), &frame, &mut clip);
+        }
+        return Ok(());
+    }
+    draw_call(alloc, target, others, command, &mut clip)
 }
 
 /// Draws a call in the rectangles of a clip that lies in the surface.
-fn draw_clipped(
+fn draw_call(
     alloc: Global,
     target: &mut Canvas,
-    call: &DrawCall,
-    inputs: &Inputs<'_>,
+    others: Others<'_>,
+    command: &DeskCommand,
     clip: &mut ClipObj,
 ) -> Result<(), AllocError>
-    requires { All (λ r. LiesIn r target.old.size) clip.old.rects }
-    ensures ok { OnOk result (target.new ≡ changed (new_of_call call.now (operands_from target.old inputs.now)) (λ p. is_in_some p clip.old.rects) target.old) }
+    requires can { CanDraw command.now }
+    requires source { IsNoRow command.now.source }
+    requires inside { All (λ r. LiesIn r target.old.size) clip.old.rects }
+    ensures ok { OnOk result ((s : State) → IsBeside s command.now.target target.old others.entry →
+        target.new ≡ changed (new_of s command.now target.old) (λ p. is_in_some p clip.old.rects) target.old) }
     ensures err { OnErr result (target.new ≡ target.old) }
 {
+    let plain = BrushObj::solid(alloc, plain_colour(command.brush));
+    let inputs = CanvasInputs {
+        source: others.source(command.target, &command.source),
+        mask: others.mask(command.mask),
+        brush: others.brush(command.brush, &plain),
+        back: command.back,
+    };
+    let call = holding(is_own(command.target, &command.source), &command.call);
+    target.draw(alloc, &call, &inputs, clip)
+}
+
+/// The call, which holds its target where that is its own source.
+fn holding(own: bool, call: &DrawCall) -> DrawCall
+    ensures { result ≡ holding own call.now }
+{
     match call {
-        DrawCall::Blt(call) => {
-            let xlate = translation_to(alloc, inputs.source, target, inputs.back)?;
-            target.blt(alloc, call, inputs, &xlate, clip)
-        }
-        DrawCall::Copy(call) => {
-            let xlate = translation_to(alloc, inputs.source, target, inputs.back)?;
-            target.copy(call, inputs, &xlate, clip);
-            Ok(())
-        }
-        DrawCall::Paint(call) => {
-            target.paint(call, inputs.brush, clip);
-            Ok(())
-        }
+        DrawCall::Blt(call) => DrawCall::Blt(BltCall {
+            held: own.then_some(call.target),
+            ..*call
+        }),
+        DrawCall::Copy(call) => DrawCall::Copy(CopyCall {
+            held: own.then_some(call.target),
+            ..*call
+        }),
+        DrawCall::Paint(call) => DrawCall::Paint(*call),
     }
 }
 
-/// Copies a row of values in the surface's own format to the rectangle of a call, in the clip; no colour counts.
-///
-/// # Errors
-///
-/// `AllocError` as of `draw_call`.
-pub fn draw_row(
+/// Copies a row of values in the surface's own format to the rectangle of a call, whose frame on the surface has points, in the
+/// rectangles of a clip within that frame; no colour counts.
+fn draw_row(
     alloc: Global,
     target: &mut Canvas,
     call: &CopyCall,
     values: &[u32],
-    clip: Option<&Region>,
+    frame: &Rect,
+    clip: &mut ClipObj,
 ) -> Result<(), AllocError>
-    requires { RowIsCopied (Row values.now) (Copy call.now) }
-    ensures ok { OnOk result ((o : Operands) → CopiesRow target.old values.now o → target.new ≡ changed (new_of_copy call.now o) (λ p. in_clip (option_copied clip.entry) p && is_in p call.now.rect) target.old) }
+    requires copied { RowIsCopied (Row values.now) (Copy call.now) }
+    requires width { target.old.size.w ≤ 4096 }
+    requires places { length target.old.values ≡ target.old.size.w * target.old.size.h }
+    requires frame { (p : Point) → IsIn p frame.now ↔ (IsIn p call.now.rect × IsIn p (whole target.old.size)) }
+    requires some { HasPoints frame.now }
+    requires inside { All (λ r. LiesIn r target.old.size) clip.old.rects }
+    requires within { (p : Point) → IsTrue (is_in_some p clip.old.rects) → IsIn p frame.now }
+    ensures ok { OnOk result ((back : Rgb) →
+        target.new ≡ changed (new_of_copy call.now (row_operands target.old values.now back)) (λ p. is_in_some p clip.old.rects) target.old) }
     ensures err { OnErr result (target.new ≡ target.old) }
-    ensures meets { OnErr result (Reaches (option_copied clip.entry) (Copy call.now) target.old.size) }
 {
-    let frame = frame_of(call.rect, target.size());
-    if !meets(clip, &frame) {
-        return Ok(());
-    }
-    let from = columns_before(&call.rect, &frame);
-    let len = width_of(&frame);
-    let row = target.row(alloc, &values[from..from + len])?;
+    let from = columns_between(&call.rect.left, &frame.left) as usize;
+    let len = columns_between(&frame.left, &frame.right);
+    let row = target.row(alloc, values, from, len)?;
     let part = CopyCall {
         target: call.target,
-        rect: frame,
+        rect: *frame,
         held: None,
         src: ORIGIN,
     };
     let no_brush = BrushObj::solid(alloc, BLACK);
-    let inputs = Inputs {
-        source: Source::Other(&row),
+    let inputs = CanvasInputs {
+        source: Some(&row),
         mask: None,
         brush: &no_brush,
         back: BLACK,
-        clip,
     };
-    draw_call(alloc, target, &DrawCall::Copy(part), &inputs)
-}
-
-/// The translation from the source of a drawing on a surface.
-fn translation_to(
-    alloc: Global,
-    source: Source<'_>,
-    to: &Canvas,
-    back: Rgb,
-) -> Result<XlateObj, AllocError>
-    ensures { IfOk result (λ x. x ≡ translation (unwrap_or (source_from to.now source.entry) to.now) to.now back) }
-{
-    let from = match source {
-        Source::Other(from) => from,
-        _ => to,
-    };
-    XlateObj::build(
-        alloc,
-        from.format(),
-        from.table(),
-        to.format(),
-        to.table(),
-        back,
-    )
+    target.draw(alloc, &DrawCall::Copy(part), &inputs, clip)
 }

@@ -56,14 +56,13 @@ fn put_rows<K: Sink>(
 ) -> Result<(), WriteFault>
     requires places { length values.old ≡ canvas.now.size.w }
     requires room { length line.old ≡ digits * canvas.now.size.w + 1 }
-    ensures { Puts (rows_text digits canvas.now.size.w canvas.now.size.h canvas.now.values) (K.written sink.old) (K.written sink.new) (K.faults sink.old) (K.faults sink.new) (is_err result) }
+    ensures { let text = rows_text digits canvas.now.size.w canvas.now.size.h canvas.now.values in
+        Puts text (K.written sink.old) (K.written sink.new) (K.faults sink.old) (K.faults sink.new) (is_err result) }
 {
     for y in 0..canvas.size().h {
         canvas.read_row(y, values);
         put_row(line, values, digits);
-        if write_all(sink, line).is_err() {
-            return Err(WriteFault);
-        }
+        write_all(sink, line)?;
     }
     Ok(())
 }
@@ -79,12 +78,11 @@ pub fn put_dump<K: Sink>(
 ) -> Result<(), WriteFault>
     requires places { length values.old ≡ canvas.now.size.w }
     requires room { length line.old ≡ digits_of canvas.now.format * canvas.now.size.w + 1 }
-    ensures { Puts (dump_text script.now.names name canvas.now) (K.written sink.old) (K.written sink.new) (K.faults sink.old) (K.faults sink.new) (is_err result) }
+    ensures { let text = dump_text script.now.names name canvas.now in
+        Puts text (K.written sink.old) (K.written sink.new) (K.faults sink.old) (K.faults sink.new) (is_err result) }
 {
     let format = canvas.format();
     let head = head_line(script, name, canvas.size(), format);
-    if write_all(sink, head.as_slice()).is_err() {
-        return Err(WriteFault);
-    }
+    write_all(sink, head.as_slice())?;
     put_rows(sink, canvas, format.digits() as usize, values, line)
 }

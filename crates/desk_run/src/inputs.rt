@@ -1,20 +1,17 @@
-//! What a drawing draws with, and where it may draw.
+//! What a drawing draws with.
 
 ghost use Rattle.std.specs.Prelude.{◌≡◌};
 
 use crate::canvas::Canvas;
-use crate::source::Source;
 use brush_obj::BrushObj;
 use pix_format::Rgb;
-use region::Region;
 
-/// What a drawing on a surface draws with: its source, its mask and its brush, with the background colour and the clip in force.
+/// What a drawing on a surface of the desk is handed: the surfaces that are its source and its mask, its brush, and the background
+/// colour in force.
 #[derive(Clone, Copy)]
-pub struct Inputs<'a> {
-    pub source: Source<'a>,
+pub struct CanvasInputs<'a> {
+    pub source: Option<&'a Canvas>,
     pub mask: Option<&'a Canvas>,
     pub brush: &'a BrushObj,
     pub back: Rgb,
-    /// None where there is no clip.
-    pub clip: Option<&'a Region>,
 }

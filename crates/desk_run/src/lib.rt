@@ -9,7 +9,6 @@ mod canvas;
 mod config;
 mod desk;
 mod draw;
-mod drawing;
 mod dump;
 mod frame;
 mod input;
@@ -18,7 +17,6 @@ mod others;
 mod room;
 mod row;
 mod run;
-mod source;
 mod status;
 mod sum;
 #[cfg(test)]

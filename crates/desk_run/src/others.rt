@@ -4,13 +4,13 @@ ghost use Rattle.std.specs.Prelude.{◌≡◌};
 ghost use Rattle.std.specs.Option.{option_copied};
 ghost use Rattle.brush_obj.specs.declared.face.BrushFace.TheVariants as faces;
 ghost use Rattle.script_orders.specs.Asked.{MaskIsOther};
+ghost use Rattle.geom_base.specs.declared.target.Target.{Target};
 ghost use Rattle.surf_obj.specs.Surface.{Surface};
-ghost use Rattle.desk_run.specs.Desk.{State, face_of, mask_of, source_of};
-ghost use Rattle.desk_run.specs.Drawing.{source_from};
-ghost use Rattle.desk_run.specs.Beside.{IsBeside, IsNoRow, plain_colour};
+ghost use Rattle.desk_run.specs.Desk.{State, face_of, mask_surface, source_surface};
+ghost use Rattle.desk_run.specs.InnerBeside.{IsBeside, IsNoRow, is_own, plain_colour};
+ghost use Rattle.desk_run.specs.InnerDrawing.{held_for, source_held};
 
 use crate::canvas::Canvas;
-use crate::source::Source;
 use brush_obj::BrushObj;
 use pix_format::Rgb;
 use script_orders::{BrushUse, Feed, Spot};
@@ -38,31 +38,24 @@ impl<'a> Others<'a> {
         }
     }
 
-    /// The source of a drawing.
-    pub fn source(self, spot: Spot, feed: &Feed) -> Source<'a>
-        ensures { (s : State) (t : Surface) → IsBeside s spot t self.entry → IsNoRow feed.now → source_from t result ≡ source_of s t feed.now }
+    /// The surface that a drawing takes its source from, where that isn't the one that is drawn on.
+    pub fn source(self, spot: Spot, feed: &Feed) -> Option<&'a Canvas>
+        ensures { (s : State) (t : Surface) (target : Target) → IsBeside s spot t self.entry → IsNoRow feed.now →
+            source_held (option_copied result) (held_for (is_own spot feed.now) target) t ≡ source_surface s t feed.now }
     {
+        if is_own(spot, feed) {
+            return None;
+        }
         match feed {
-            Feed::Desk => match self.screen {
-                Some(screen) => Source::Other(screen),
-                None => Source::Own,
-            },
-            Feed::Bitmap(number) => {
-                if spot == Spot::Bitmap(*number) {
-                    return Source::Own;
-                }
-                match self.bitmap(*number) {
-                    Some(bitmap) => Source::Other(bitmap),
-                    None => Source::Nothing,
-                }
-            }
-            _ => Source::Nothing,
+            Feed::Desk => self.screen,
+            Feed::Bitmap(number) => self.bitmap(*number),
+            _ => None,
         }
     }
 
     /// The mask of a drawing.
     pub fn mask(self, mask: Option<u32>) -> Option<&'a Canvas>
-        ensures { (s : State) (spot : Spot) (t : Surface) → IsBeside s spot t self.entry → MaskIsOther spot mask → option_copied result ≡ mask_of s mask }
+        ensures { (s : State) (spot : Spot) (t : Surface) → IsBeside s spot t self.entry → MaskIsOther spot mask → option_copied result ≡ mask_surface s mask }
     {
         match mask {
             Some(number) => self.bitmap(number),
@@ -83,6 +76,17 @@ impl<'a> Others<'a> {
             Some(brush) => brush,
             None => plain,
         }
+    }
+}
+
+/// What is drawn on is the drawing's source.
+pub fn is_own(spot: Spot, feed: &Feed) -> bool
+    ensures { result ≡ is_own spot feed.now }
+{
+    match feed {
+        Feed::Desk => spot == Spot::Desk,
+        Feed::Bitmap(number) => spot == Spot::Bitmap(*number),
+        _ => false,
     }
 }
 

@@ -1,7 +1,7 @@
 //! Room for a row.
 
 ghost use Rattle.std.specs.Prelude.{◌≡◌, IfOk, length};
-ghost use Rattle.desk_run.specs.Rows.{longest_line, widest_row};
+ghost use Rattle.desk_run.specs.InnerRows.{longest_line, widest_row};
 
 use std::alloc::{AllocError, Global};
 

@@ -1,41 +1,44 @@
 //! Rows of values.
 
-ghost use Rattle.std.specs.Prelude.{◌≡◌, ◌≤ℤ◌, ◌-ℤ◌, pos, ◌<◌, ◌^◌, length, EachIndex, slice_index};
-ghost use Rattle.surf_obj.specs.Object.{object_size, object_format, object_values, OnlyItsPixels};
-ghost use Rattle.desk_run.specs.Rows.{low_bits};
+ghost use Rattle.std.specs.Prelude.{◌≡◌, ◌≤ℤ◌, ◌<ℤ◌, ◌-ℤ◌, ◌+◌, ◌≤◌, pos, ℕ, ◌<◌, length, slice_index};
+ghost use Rattle.surf_obj.specs.Layout.{Holds, values_in};
+ghost use Rattle.surf_obj.specs.Lent.{format_of, layout_of, size_of, values_of};
+ghost use Rattle.desk_run.specs.InnerRows.{low_bits};
 
-use geom_base::Rect;
+use geom_base::Point;
 use rop_mix::{Rop4, rop4_bits};
-use surf_obj::SurfObj;
+use surf_obj::{Layout, LentSurf};
 
-/// How many columns of a rectangle lie to the left of its frame.
-pub fn columns_before(rect: &Rect, frame: &Rect) -> usize
-    requires { rect.now.left ≤ℤ frame.now.left }
-    ensures columns { pos result ≡ frame.now.left -ℤ rect.now.left }
-    ensures fits { result < 2 ^ 32 }
+/// How many columns lie from one to before another.
+pub fn columns_between(from: &i32, to: &i32) -> u32
+    requires { from.now ≤ℤ to.now }
+    ensures { pos result ≡ to.now -ℤ from.now }
 {
-    (i64::from(frame.left) - i64::from(rect.left)) as usize
+    (i64::from(*to) - i64::from(*from)) as u32
 }
 
-/// How many columns a rectangle has.
-pub fn width_of(rect: &Rect) -> usize
-    requires { rect.now.left ≤ℤ rect.now.right }
-    ensures columns { pos result ≡ rect.now.right -ℤ rect.now.left }
-    ensures fits { result < 2 ^ 32 }
+/// Puts the low bits of values, from one on, into bits that hold a surface of one row.
+pub fn put_values(bits: &mut [u8], layout: Layout, values: &[u32], from: usize)
+    requires holds { Holds layout (length bits.old) }
+    requires row { layout.size.h ≡ 1 }
+    requires values { from + layout.size.w ≤ length values.now }
+    ensures { (k : ℕ) → k < layout.size.w → slice_index (values_in layout bits.new) k ≡ low_bits layout.format (slice_index values.now (from + k)) }
 {
-    (i64::from(rect.right) - i64::from(rect.left)) as usize
+    put_each(&mut LentSurf::on(bits, layout), values, from);
 }
 
-/// Puts the low bits of values into a surface of one row.
-pub fn put_values(pixels: &mut SurfObj, values: &[u32])
-    requires columns { length values.now ≡ (object_size pixels.old).w }
-    requires row { (object_size pixels.old).h ≡ 1 }
-    ensures values { EachIndex values.now (λ k. slice_index (object_values pixels.new) k ≡ low_bits (object_format pixels.old) (slice_index values.now k)) }
-    ensures only { OnlyItsPixels pixels.old pixels.new }
+/// The same on a surface that was lent.
+fn put_each(row: &mut LentSurf<'_>, values: &[u32], from: usize)
+    requires row { (size_of row.old).h ≡ 1 }
+    requires values { from + (size_of row.old).w ≤ length values.now }
+    ensures values { (k : ℕ) → k < (size_of row.old).w → slice_index (values_of row.new) k ≡ low_bits (format_of row.old) (slice_index values.now (from + k)) }
+    ensures loan { row.new.bits.ghost_name ≡ row.old.bits.ghost_name }
+    ensures layout { layout_of row.new ≡ layout_of row.old }
 {
-    let bits = pixels.format().bits();
-    for i in 0..values.len() {
-        let value = rop4_bits(Rop4::of(0xcccc), false, 0, values[i], 0, bits);
-        pixels.set_pixel(i as u32, 0, value);
+    let Layout { size, format, .. } = row.layout();
+    for i in 0..size.w {
+        let value = values[from + i as usize];
+        let low = rop4_bits(Rop4::of(0xcccc), false, 0, value, 0, format.bits());
+        row.set(Point::at(i, 0), low);
     }
 }

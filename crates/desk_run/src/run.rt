@@ -6,9 +6,10 @@ ghost use Rattle.desk_io.specs.Sinks.{Puts};
 ghost use Rattle.script_orders.specs.Asked.{CanDo, CanDraw};
 ghost use Rattle.script_orders.specs.declared.script_command.ScriptCommand.TheVariants as asked;
 ghost use Rattle.desk_run.specs.Desk.{State, name_of, surface_at, carried};
-ghost use Rattle.desk_run.specs.Rows.{longest_line, widest_row};
+ghost use Rattle.desk_run.specs.InnerRows.{longest_line, widest_row};
 ghost use Rattle.desk_run.specs.Texts.{dump_text, sum_text};
-ghost use Rattle.desk_run.specs.Run.{Entry, GaveAs, MadeAs, WrittenAs, Ran, run};
+ghost use Rattle.desk_run.specs.Run.{Entry, Ran, run};
+ghost use Rattle.desk_run.specs.InnerRun.{CameOut, MadeAs, WrittenAs};
 
 use crate::desk::Desk;
 use crate::dump::put_dump;
@@ -31,7 +32,7 @@ pub enum Ended {
 
 /// What carrying out a command gave.
 #[derive(Clone, Copy, Debug, PartialEq, Eq)]
-pub enum Given {
+pub enum Outcome {
     /// It is done, and its lines are written.
     Whole,
     /// There was no memory for a drawing, and that is written.
@@ -43,22 +44,22 @@ pub enum Given {
 }
 
 /// What making something gave.
-fn given_of(made: Result<(), AllocError>) -> Given
+fn outcome_of_making(made: Result<(), AllocError>) -> Outcome
     ensures { MadeAs made result }
 {
     match made {
-        Ok(()) => Given::Whole,
-        Err(_) => Given::Lacking,
+        Ok(()) => Outcome::Whole,
+        Err(_) => Outcome::Lacking,
     }
 }
 
 /// What writing gave.
-fn given_by(written: Result<(), WriteFault>) -> Given
+fn outcome_of_writing(written: Result<(), WriteFault>) -> Outcome
     ensures { WrittenAs written result }
 {
     match written {
-        Ok(()) => Given::Whole,
-        Err(_) => Given::Broken,
+        Ok(()) => Outcome::Whole,
+        Err(_) => Outcome::Broken,
     }
 }
 
@@ -73,7 +74,8 @@ fn dump<K: Sink>(
 ) -> Result<(), WriteFault>
     requires values { length values.old ≡ widest_row }
     requires line { length line.old ≡ longest_line }
-    ensures { Puts (option_map_or (dump_text script.now.names name) (surface_at desk.now name) []) (K.written sink.old) (K.written sink.new) (K.faults sink.old) (K.faults sink.new) (is_err result) }
+    ensures { let text = option_map_or (dump_text script.now.names name) (surface_at desk.now name) [] in
+        Puts text (K.written sink.old) (K.written sink.new) (K.faults sink.old) (K.faults sink.new) (is_err result) }
 {
     let canvas = match desk.surface(name) {
         Some(canvas) => canvas,
@@ -100,7 +102,8 @@ fn sum<K: Sink>(
     values: &mut [u32],
 ) -> Result<(), WriteFault>
     requires { length values.old ≡ widest_row }
-    ensures { Puts (option_map_or (sum_text script.now.names name) (surface_at desk.now name) []) (K.written sink.old) (K.written sink.new) (K.faults sink.old) (K.faults sink.new) (is_err result) }
+    ensures { let text = option_map_or (sum_text script.now.names name) (surface_at desk.now name) [] in
+        Puts text (K.written sink.old) (K.written sink.new) (K.faults sink.old) (K.faults sink.new) (is_err result) }
 {
     let canvas = match desk.surface(name) {
         Some(canvas) => canvas,
@@ -118,18 +121,19 @@ fn draw<K: Sink>(
     number: u64,
     command: &DeskCommand,
     sink: &mut K,
-) -> Given
+) -> Outcome
     requires { CanDraw command.now }
-    ensures { GaveAs script.now.names number (asked.Draw command.now) desk.old desk.new (K.written sink.old) (K.written sink.new) (K.faults sink.old) (K.faults sink.new) result }
+    ensures { let asked_for = asked.Draw command.now in
+        CameOut script.now.names number asked_for desk.old desk.new (K.written sink.old) (K.written sink.new) (K.faults sink.old) (K.faults sink.new) result }
 {
-    if desk.draw(alloc, command).is_ok() {
-        return Given::Whole;
+    if let Err(_) = desk.draw(alloc, command) {
+        let line = wanting_line(script, number, name_of(command.target));
+        return match write_all(sink, line.as_slice()) {
+            Ok(()) => Outcome::Wanting,
+            Err(_) => Outcome::Broken,
+        };
     }
-    let line = wanting_line(script, number, name_of(command.target));
-    match write_all(sink, line.as_slice()) {
-        Ok(()) => Given::Wanting,
-        Err(_) => Given::Broken,
-    }
+    Outcome::Whole
 }
 
 /// What the output names of what is drawn on.
@@ -152,23 +156,26 @@ fn carry_out<K: Sink>(
     values: &mut [u32],
     line: &mut [u8],
     sink: &mut K,
-) -> Given
+) -> Outcome
     requires can { CanDo command.now }
     requires values { length values.old ≡ widest_row }
     requires line { length line.old ≡ longest_line }
-    ensures { GaveAs script.now.names number command.now desk.old desk.new (K.written sink.old) (K.written sink.new) (K.faults sink.old) (K.faults sink.new) result }
+    ensures { CameOut script.now.names number command.now desk.old desk.new
+        (K.written sink.old) (K.written sink.new) (K.faults sink.old) (K.faults sink.new) result }
 {
     match command {
-        ScriptCommand::Create(order) => given_of(desk.create(alloc, order)),
+        ScriptCommand::Create(order) => outcome_of_making(desk.create(alloc, order)),
         ScriptCommand::Delete(number) => {
             desk.delete(*number);
-            Given::Whole
+            Outcome::Whole
         }
-        ScriptCommand::Brush(order) => given_of(desk.make_brush(alloc, order)),
+        ScriptCommand::Brush(order) => outcome_of_making(desk.make_brush(alloc, order)),
         ScriptCommand::Draw(command) => draw(alloc, desk, script, number, command, sink),
-        ScriptCommand::Dump(name) => given_by(dump(sink, script, desk, *name, values, line)),
-        ScriptCommand::Sum(name) => given_by(sum(sink, script, desk, *name, values)),
-        ScriptCommand::Nothing => Given::Whole,
+        ScriptCommand::Dump(name) => outcome_of_writing(dump(
+            sink, script, desk, *name, values, line,
+        )),
+        ScriptCommand::Sum(name) => outcome_of_writing(sum(sink, script, desk, *name, values)),
+        ScriptCommand::Nothing => Outcome::Whole,
     }
 }
 
@@ -187,7 +194,9 @@ pub fn run_all<K: Sink>(
     requires few { length commands.now ≤ 100000 }
     requires values { length values.old ≡ widest_row }
     requires line { length line.old ≡ longest_line }
-    ensures { (h : List Entry) × Ran script.now.names commands.now desk.old (K.written sink.old) (K.written sink.new) (K.faults sink.old) (K.faults sink.new) result h × (desk.new ≡ run h desk.old) }
+    ensures { (h : List Entry) ×
+        Ran script.now.names commands.now desk.old (K.written sink.old) (K.written sink.new) (K.faults sink.old) (K.faults sink.new) result h ×
+        (desk.new ≡ run h desk.old) }
 {
     let mut whole = true;
     for i in 0..commands.len() {
@@ -202,19 +211,16 @@ pub fn run_all<K: Sink>(
             line,
             sink,
         ) {
-            Given::Whole => {}
-            Given::Wanting => whole = false,
-            Given::Lacking => return Ended::NoMemory,
-            Given::Broken => return Ended::WriteFault,
+            Outcome::Whole => {}
+            Outcome::Wanting => whole = false,
+            Outcome::Lacking => return Ended::NoMemory,
+            Outcome::Broken => return Ended::WriteFault,
         }
     }
     let last = end_line(commands.len() as u64);
-    if write_all(sink, last.as_slice()).is_err() {
-        return Ended::WriteFault;
-    }
-    if whole {
-        Ended::Done
-    } else {
-        Ended::MemorySeen
+    match write_all(sink, last.as_slice()) {
+        Ok(()) if whole => Ended::Done,
+        Ok(()) => Ended::MemorySeen,
+        Err(_) => Ended::WriteFault,
     }
 }

@@ -42,7 +42,8 @@ pub fn put_sum<K: Sink>(
     values: &mut [u32],
 ) -> Result<(), WriteFault>
     requires { length values.old ≡ canvas.now.size.w }
-    ensures { Puts (sum_text script.now.names name canvas.now) (K.written sink.old) (K.written sink.new) (K.faults sink.old) (K.faults sink.new) (is_err result) }
+    ensures { let text = sum_text script.now.names name canvas.now in
+        Puts text (K.written sink.old) (K.written sink.new) (K.faults sink.old) (K.faults sink.new) (is_err result) }
 {
     let line = sum_line(script, name, sum(canvas, values));
     write_all(sink, line.as_slice())

@@ -6,6 +6,7 @@ use crate::call::run_desktop;
 use crate::status::{InputRefusal, Status};
 use desk_io::{MemSink, MemSource};
 use std::alloc::{AllocError, Global};
+use std::process::Abort;
 use std::test::Fail;
 
 const CONFIG: &str =
@@ -60,6 +61,15 @@ fn input(alloc: Global, script: &str) -> Result<Vec<u8>, AllocError> {
     Ok(bytes)
 }
 
+/// A script runs, and its text is this.
+fn gives(rt: &impl Abort, alloc: Global, script: &str, want: &str) -> Result<(), Fail> {
+    let bytes = input(alloc, script)?;
+    let (status, sink) = answer(alloc, "run", bytes, SMOOTH, SMOOTH)?;
+    assert_eq!(rt; status, Status::Done, "{script:?}");
+    assert_eq!(rt; sink.written(), want.as_bytes(), "{script:?}");
+    Ok(())
+}
+
 /// So many spaces.
 fn spaces(alloc: Global, count: usize) -> Result<Vec<u8>, AllocError> {
     vec![in alloc; b' '; count]
@@ -85,10 +95,7 @@ fn scripts_and_their_texts(rt: HostRuntime) -> Result<(), Fail> {
         ),
     ];
     for (script, want) in cases {
-        let bytes = input(rt.alloc(), script)?;
-        let (status, sink) = answer(rt.alloc(), "run", bytes, SMOOTH, SMOOTH)?;
-        assert_eq!(rt; status, Status::Done, "{script:?}");
-        assert_eq!(rt; sink.written(), want.as_bytes(), "{script:?}");
+        gives(&rt, rt.alloc(), script, want)?;
     }
     Ok(())
 }
@@ -109,7 +116,8 @@ fn bitmaps_and_their_texts(rt: HostRuntime) -> Result<(), Fail> {
             "dump 0 4 2 8\n001c0000\n00000000\nend 5\n",
         ),
         (
-            "bitmap t 3 1 8\npixels t 0 0 01 02 03\nbitmap k 2 1 1\npixels k 0 0 1 0\nblt t 1 0 3 1 t 0 0 k 0 0 - AACC\ndump t\nbrush b pattern t\npaint screen 0 0 4 2 b 13\ndump 0",
+            "bitmap t 3 1 8\npixels t 0 0 01 02 03\nbitmap k 2 1 1\npixels k 0 0 1 0\nblt t 1 0 3 1 t 0 0 k 0 0 - AACC\n\
+             dump t\nbrush b pattern t\npaint screen 0 0 4 2 b 13\ndump 0",
             "dump t 3 1 8\n010103\ndump 0 4 2 8\n01010301\n01010301\nend 9\n",
         ),
         (
@@ -118,10 +126,7 @@ fn bitmaps_and_their_texts(rt: HostRuntime) -> Result<(), Fail> {
         ),
     ];
     for (script, want) in cases {
-        let bytes = input(rt.alloc(), script)?;
-        let (status, sink) = answer(rt.alloc(), "run", bytes, SMOOTH, SMOOTH)?;
-        assert_eq!(rt; status, Status::Done, "{script:?}");
-        assert_eq!(rt; sink.written(), want.as_bytes(), "{script:?}");
+        gives(&rt, rt.alloc(), script, want)?;
     }
     Ok(())
 }
@@ -134,7 +139,8 @@ fn clips_and_their_texts(rt: HostRuntime) -> Result<(), Fail> {
             "dump 0 4 2 8\n00000000\n00000000\nend 5\n",
         ),
         (
-            "bitmap t 4 4 8\npixels t 0 0 00 01 02 03\npixels t 0 1 10 11 12 13\npixels t 0 2 20 21 22 23\npixels t 0 3 30 31 32 33\nregion r rects 0 0 2 4 0 2 4 4\nclip r\ncopy t 0 1 3 4 t 1 0\ndump t",
+            "bitmap t 4 4 8\npixels t 0 0 00 01 02 03\npixels t 0 1 10 11 12 13\npixels t 0 2 20 21 22 23\n\
+             pixels t 0 3 30 31 32 33\nregion r rects 0 0 2 4 0 2 4 4\nclip r\ncopy t 0 1 3 4 t 1 0\ndump t",
             "dump t 4 4 8\n00010203\n01021213\n11121323\n21222333\nend 9\n",
         ),
         (
@@ -147,10 +153,7 @@ fn clips_and_their_texts(rt: HostRuntime) -> Result<(), Fail> {
         ),
     ];
     for (script, want) in cases {
-        let bytes = input(rt.alloc(), script)?;
-        let (status, sink) = answer(rt.alloc(), "run", bytes, SMOOTH, SMOOTH)?;
-        assert_eq!(rt; status, Status::Done, "{script:?}");
-        assert_eq!(rt; sink.written(), want.as_bytes(), "{script:?}");
+        gives(&rt, rt.alloc(), script, want)?;
     }
     Ok(())
 }

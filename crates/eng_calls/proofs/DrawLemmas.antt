@@ -7,26 +7,43 @@ use Rattle.geom_base.specs.declared.size.Size.{Size}
 use Rattle.geom_base.specs.Points.{is_in, no_rect}
 use Rattle.pix_format.specs.declared.format.Format.{Format}
 use Rattle.surf_obj.specs.Lent.{size_of, format_of, values_of, OnlyPixels}
-use Rattle.surf_obj.specs.Surface.{redrawn}
+use Rattle.geom_base.specs.Step.{redrawn}
 use Rattle.surf_obj.specs.declared.lent.LentSurf.{LentSurf}
-use Rattle.surf_obj.proofs.LentLemmas.{OnlyPixels-size, OnlyPixels-format}
+use Rattle.surf_obj.specs.LentLaws.{OnlyPixels-size, OnlyPixels-format}
 use Rattle.eng_calls.specs.Steps.{Rule, step_by_step}
 use Rattle.eng_calls.proofs.HeartLemmas.{steps-append}
 
--- a rule for a surface is one for another of its form
-given_like : (Gives : Size → Format → Rule → Type 0) (old now : LentSurf) (rule : Rule) → OnlyPixels old now → Gives (size_of old) (format_of old) rule → Gives (size_of now) (format_of now) rule
-given_like Gives old now rule only given =
-    subst (λ (s : Size). Gives s (format_of now) rule) (sym (OnlyPixels-size old now only)) (subst (λ (f : Format). Gives (size_of old) f rule) (sym (OnlyPixels-format old now only)) given)
+-- a drawing of a surface that has another's size and format, by what is given on that
+module _ (gives : Size → Format → Rule) (old now next : LentSurf) (only : OnlyPixels old now) where
+  abbrev pub rule : Rule
+  rule = gives (size_of old) (format_of old)
 
-pub drawn_next : (Gives : Size → Format → Rule → Type 0) (old now next : LentSurf) (rects : List Rect) (i : ℕ) → i < length rects → OnlyPixels old now →
-    ((rule : Rule) → Gives (size_of old) (format_of old) rule → step_by_step (size_of old) rule (drop i rects) (values_of now) ≡ step_by_step (size_of old) rule rects (values_of old)) →
-    ((rule : Rule) → Gives (size_of now) (format_of now) rule → values_of next ≡ redrawn (size_of now) (values_of now) (λ p. is_in p (get_or rects i no_rect)) (rule (values_of now))) →
-    (rule : Rule) → Gives (size_of old) (format_of old) rule → step_by_step (size_of old) rule (drop (i + 1) rects) (values_of next) ≡ step_by_step (size_of old) rule rects (values_of old)
-drawn_next Gives old now next rects i lt only before step rule given =
-    ap (step_by_step (size_of old) rule (drop (i + 1) rects))
-    (step rule (given_like Gives old now rule only given) ∙ ap (λ (s : Size). redrawn s (values_of now) (λ p. is_in p (get_or rects i no_rect)) (rule (values_of now))) (OnlyPixels-size old now only))
-    ∙ sym (ap (λ (l : List Rect). step_by_step (size_of old) rule l (values_of now)) (drop_more rects i no_rect lt))
-    ∙ before rule given
+  like : (step : Size → Rule → List ℕ) → values_of next ≡ step (size_of now) (gives (size_of now) (format_of now)) → values_of next ≡ step (size_of old) rule
+  like step drew =
+      drew ∙ ap (λ (s : Size). step s (gives s (format_of now))) (OnlyPixels-size old now only)
+      ∙ ap (λ (f : Format). step (size_of old) (gives (size_of old) f)) (OnlyPixels-format old now only)
+
+  pub drawn_next : (rects : List Rect) (i : ℕ) → i < length rects →
+      step_by_step (size_of old) rule (drop i rects) (values_of now) ≡ step_by_step (size_of old) rule rects (values_of old) →
+      values_of next ≡ redrawn (size_of now) (values_of now) (λ p. is_in p (get_or rects i no_rect)) (gives (size_of now) (format_of now) (values_of now)) →
+      step_by_step (size_of old) rule (drop (i + 1) rects) (values_of next) ≡ step_by_step (size_of old) rule rects (values_of old)
+  drawn_next rects i lt before drew =
+      ap (step_by_step (size_of old) rule (drop (i + 1) rects))
+      (like (λ s r. redrawn s (values_of now) (λ p. is_in p (get_or rects i no_rect)) (r (values_of now))) drew)
+      ∙ sym (ap (λ (l : List Rect). step_by_step (size_of old) rule l (values_of now)) (drop_more rects i no_rect lt))
+      ∙ before
+
+  pub batch_next : (part left rest all : List Rect) (n : ℕ) → part ≡ take n left → rest ≡ drop n left →
+      step_by_step (size_of old) rule left (values_of now) ≡ step_by_step (size_of old) rule all (values_of old) →
+      values_of next ≡ step_by_step (size_of now) (gives (size_of now) (format_of now)) part (values_of now) →
+      step_by_step (size_of old) rule rest (values_of next) ≡ step_by_step (size_of old) rule all (values_of old)
+  batch_next part left rest all n first later before drew =
+      ap (λ (l : List Rect). step_by_step (size_of old) rule l (values_of next)) later
+      ∙ ap (step_by_step (size_of old) rule (drop n left))
+      (like (λ s r. step_by_step s r part (values_of now)) drew ∙ ap (λ (l : List Rect). step_by_step (size_of old) rule l (values_of now)) first)
+      ∙ sym (steps-append (size_of old) rule (take n left) (drop n left) (values_of now))
+      ∙ ap (λ (l : List Rect). step_by_step (size_of old) rule l (values_of now)) (take-append-drop n left)
+      ∙ before
 
 all_dropped : (rects : List Rect) (i : ℕ) → length rects ≤ i → drop i rects ≡ []
 all_dropped [] zero h = refl
@@ -34,7 +51,8 @@ all_dropped [] (suc i) h = refl
 all_dropped (r ∷ rects) zero h = absurd (omega (arith, h))
 all_dropped (r ∷ rects) (suc i) h = all_dropped rects i (omega (arith, h))
 
-pub drawn_end : (size : Size) (rule : Rule) (rects : List Rect) (i : ℕ) (values : List ℕ) → length rects ≤ i → values ≡ step_by_step size rule (drop i rects) values
+pub drawn_end : (size : Size) (rule : Rule) (rects : List Rect) (i : ℕ) (values : List ℕ) → length rects ≤ i →
+    values ≡ step_by_step size rule (drop i rects) values
 drawn_end size rule rects i values past = ap (λ (l : List Rect). step_by_step size rule l values) (sym (all_dropped rects i past))
 
 -- a batch and the rest
@@ -46,19 +64,6 @@ taken_back (suc n) (x ∷ xs) ys h = ap (λ (l : List Rect). x ∷ l) (taken_bac
 
 pub batch_of : (n : ℕ) (left batch was : List Rect) → n ≤ length left → batch ≡ take n left ++ drop n was → take n batch ≡ take n left
 batch_of n left batch was fits e = ap (take n) e ∙ taken_back n left (drop n was) fits
-
-pub batch_next : (Gives : Size → Format → Rule → Type 0) (old now next : LentSurf) (part left rest all : List Rect) (n : ℕ) → OnlyPixels old now → part ≡ take n left → rest ≡ drop n left →
-    ((rule : Rule) → Gives (size_of old) (format_of old) rule → step_by_step (size_of old) rule left (values_of now) ≡ step_by_step (size_of old) rule all (values_of old)) →
-    ((rule : Rule) → Gives (size_of now) (format_of now) rule → values_of next ≡ step_by_step (size_of now) rule part (values_of now)) →
-    (rule : Rule) → Gives (size_of old) (format_of old) rule → step_by_step (size_of old) rule rest (values_of next) ≡ step_by_step (size_of old) rule all (values_of old)
-batch_next Gives old now next part left rest all n only first later before step rule given =
-    ap (λ (l : List Rect). step_by_step (size_of old) rule l (values_of next)) later
-    ∙ ap (step_by_step (size_of old) rule (drop n left))
-    (step rule (given_like Gives old now rule only given) ∙ ap (λ (s : Size). step_by_step s rule part (values_of now)) (OnlyPixels-size old now only)
-    ∙ ap (λ (l : List Rect). step_by_step (size_of old) rule l (values_of now)) first)
-    ∙ sym (steps-append (size_of old) rule (take n left) (drop n left) (values_of now))
-    ∙ ap (λ (l : List Rect). step_by_step (size_of old) rule l (values_of now)) (take-append-drop n left)
-    ∙ before rule given
 
 none_left : (rest : List Rect) → length rest ≤ 0 → rest ≡ []
 none_left [] h = refl

@@ -1,4 +1,5 @@
 pub mod Steps
 pub mod Order
-pub mod Given
+pub mod InnerGives
 pub mod Memory
+pub mod Inputs

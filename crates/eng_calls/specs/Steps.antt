@@ -5,8 +5,7 @@ use Rattle.geom_base.specs.declared.point.Point.{Point}
 use Rattle.geom_base.specs.declared.rect.Rect.{Rect}
 use Rattle.geom_base.specs.declared.size.Size.{Size}
 use Rattle.geom_base.specs.Points.{is_in, is_in_some, AreApart}
-use Rattle.surf_obj.specs.Changes.{Change}
-use Rattle.surf_obj.specs.Surface.{redrawn}
+use Rattle.geom_base.specs.Step.{Change, redrawn}
 
 -- the change that a call makes, given the values that it finds
 abbrev pub Rule : Type 0
@@ -18,10 +17,11 @@ step_by_step size rule [] values = values
 step_by_step size rule (r ∷ rects) values = step_by_step size rule rects (redrawn size values (λ p. is_in p r) (rule values))
 
 -- whatever was drawn in a first rectangle, points of a second get what they got before
-abbrev pub Keeps : Size → Rule → Rect → Rect → Type 0
-Keeps size rule a b = (values : List ℕ) (new : Change) (p : Point) (d : ℕ) → is_in p b ≡ true → rule (redrawn size values (λ q. is_in q a) new) p d ≡ rule values p d
+abbrev pub IsUnaffected : Size → Rule → Rect → Rect → Type 0
+IsUnaffected size rule a b = (values : List ℕ) (new : Change) (p : Point) (d : ℕ) → is_in p b ≡ true →
+    rule (redrawn size values (λ q. is_in q a) new) p d ≡ rule values p d
 
 -- rectangles that are apart, each of which keeps what later ones get, are one step from the values before
 abbrev pub StepsAreOne : Type 0
-StepsAreOne = (size : Size) (rule : Rule) (rects : List Rect) (values : List ℕ) → AllPairs AreApart rects → AllPairs (Keeps size rule) rects →
+StepsAreOne = (size : Size) (rule : Rule) (rects : List Rect) (values : List ℕ) → AllPairs AreApart rects → AllPairs (IsUnaffected size rule) rects →
     step_by_step size rule rects values ≡ redrawn size values (λ p. is_in_some p rects) (rule values)

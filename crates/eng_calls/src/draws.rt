@@ -6,7 +6,7 @@ ghost use Rattle.geom_base.specs.declared.size.Size.{Size};
 ghost use Rattle.geom_base.specs.Points.{is_in, LiesIn};
 ghost use Rattle.pix_format.specs.declared.format.Format.{Format};
 ghost use Rattle.surf_obj.specs.Lent.{values_of, size_of, format_of, OnlyPixels};
-ghost use Rattle.surf_obj.specs.Surface.{redrawn};
+ghost use Rattle.geom_base.specs.Step.{redrawn};
 ghost use Rattle.clip_obj.specs.Order.{ordered, ComesBefore};
 ghost use Rattle.eng_calls.specs.Steps.{Rule, step_by_step, StepsAreOne};
 
@@ -26,27 +26,27 @@ const NO_RECT: Rect = Rect {
 };
 
 /// A call on one surface.
-pub trait Draws {
+pub trait DrawsRect {
     /// it can be drawn on surfaces of a format
     ghost fits: { Self → Format → Type 0 };
 
-    /// a rule for what it gives on surfaces of a size and a format
-    ghost gives: { Self → Size → Format → Rule → Type 0 };
+    /// what it gives on a surface of a size and a format, from the values that it finds
+    ghost gives: { Self → Size → Format → Rule };
 
-    /// Draws the call's part in a rectangle.
+    /// DrawsRect the call's part in a rectangle.
     fn draw(&self, dst: &mut LentSurf<'_>, rect: &Rect)
         requires fits { fits self.now (format_of dst.old) }
         requires inside { LiesIn rect.now (size_of dst.old) }
-        ensures values { (rule : Rule) → gives self.now (size_of dst.old) (format_of dst.old) rule →
-            values_of dst.new ≡ redrawn (size_of dst.old) (values_of dst.old) (λ p. is_in p rect.now) (rule (values_of dst.old)) }
+        ensures values { let new = gives self.now (size_of dst.old) (format_of dst.old) (values_of dst.old) in
+            values_of dst.new ≡ redrawn (size_of dst.old) (values_of dst.old) (λ p. is_in p rect.now) new }
         ensures only { OnlyPixels dst.old dst.new };
 }
 
-/// Draws a call in one rectangle after the other.
-fn draw_rects<D: Draws>(call: &D, dst: &mut LentSurf<'_>, rects: &[Rect])
+/// DrawsRect a call in one rectangle after the other.
+fn draw_rects<D: DrawsRect>(call: &D, dst: &mut LentSurf<'_>, rects: &[Rect])
     requires fits { D.fits call.now (format_of dst.old) }
     requires inside { All (λ r. LiesIn r (size_of dst.old)) rects.now }
-    ensures values { (rule : Rule) → D.gives call.now (size_of dst.old) (format_of dst.old) rule →
+    ensures values { let rule = D.gives call.now (size_of dst.old) (format_of dst.old) in
         values_of dst.new ≡ step_by_step (size_of dst.old) rule rects.now (values_of dst.old) }
     ensures only { OnlyPixels dst.old dst.new }
 {
@@ -55,8 +55,8 @@ fn draw_rects<D: Draws>(call: &D, dst: &mut LentSurf<'_>, rects: &[Rect])
     }
 }
 
-/// Draws a call in the rectangles of a clip, in the order of a direction.
-pub fn draw_clip<D: Draws>(
+/// DrawsRect a call in the rectangles of a clip, in the order of a direction.
+pub fn draw_clip<D: DrawsRect>(
     call: &D,
     dst: &mut LentSurf<'_>,
     clip: &mut ClipObj,
@@ -64,7 +64,7 @@ pub fn draw_clip<D: Draws>(
 )
     requires fits { D.fits call.now (format_of dst.old) }
     requires inside { All (λ r. LiesIn r (size_of dst.old)) clip.old.rects }
-    ensures values { (rule : Rule) → D.gives call.now (size_of dst.old) (format_of dst.old) rule →
+    ensures values { let rule = D.gives call.now (size_of dst.old) (format_of dst.old) in
         values_of dst.new ≡ step_by_step (size_of dst.old) rule (ordered direction clip.old.rects) (values_of dst.old) }
     ensures only { OnlyPixels dst.old dst.new }
     ensures order { AllPairs (ComesBefore direction) (ordered direction clip.old.rects) }

@@ -3,18 +3,22 @@
 //! A call is drawn by its kernel, rectangle by rectangle, in the order that its shift asks for: where the target itself is the
 //! source, each point is read before it is drawn over. `StepsAreOne` of `specs/Steps.antt` says of any rectangles in such an order
 //! that drawing one after the other, each from the values that it finds, is one step over all of them from the values before the
-//! call. A trait `Draws` stands for the calls, so that this is said and proved once.
+//! call. A trait `DrawsRect` stands for the calls, so that this is said and proved once.
 #![tactic(auto)]
 
 mod blt;
 mod copy;
+mod draw;
 mod draws;
+mod inputs;
 mod order;
 mod paint;
 
 pub use blt::eng_bit_blt;
 pub use copy::eng_copy_bits;
+pub use draw::eng_draw;
 pub use draws::steps_are_one;
+pub use inputs::Inputs;
 pub use order::shifts_are_in_order;
 pub use paint::eng_paint;
 

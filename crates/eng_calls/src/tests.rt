@@ -1,19 +1,19 @@
 //! Calls over clips, against plain definitions.
 
-ghost use Rattle.std.specs.Prelude.{◌≡◌, All, IfOk};
+ghost use Rattle.std.specs.Prelude.{◌≡◌, All, IfOk, length};
 ghost use Rattle.geom_base.specs.Points.{LiesIn};
 
 use super::*;
-use brush_obj::{BltCall, BrushObj, CopyCall, PaintCall};
+use brush_obj::{BltCall, BrushObj, CopyCall, DrawCall, PaintCall};
 use clip_obj::ClipObj;
 use geom_base::{Point, Rect, Size, Target};
 use pix_format::{ColourTable, Format, Rgb, XlateObj};
 use region::Region;
 use rop_mix::{Mix, Rop4};
-use std::alloc::Global;
+use std::alloc::{AllocError, Global};
 use std::process::Abort;
 use std::test::Fail;
-use surf_obj::{LentSurf, LentView};
+use surf_obj::{Layout, LentSurf, LentView};
 
 const WHITE: Rgb = Rgb {
     r: 0xff,
@@ -116,7 +116,7 @@ fn copied(alloc: Global, right: i32, down: i32) -> Result<[u8; 64], Fail> {
     let table = ColourTable::standard(alloc, Format::B8)?;
     let xlate = XlateObj::build(alloc, Format::B8, &table, Format::B8, &table, WHITE)?;
     let mut bytes = picture();
-    let mut dst = LentSurf::on(&mut bytes, SIZE, Format::B8, 8, false);
+    let mut dst = LentSurf::on(&mut bytes, Layout::new(SIZE, Format::B8, 8, false));
     let call = CopyCall {
         target: Target::Screen,
         rect: WHOLE,
@@ -150,9 +150,9 @@ fn masked(alloc: Global, right: i32, down: i32) -> Result<[u8; 64], Fail> {
     let table = ColourTable::standard(alloc, Format::B8)?;
     let xlate = XlateObj::build(alloc, Format::B8, &table, Format::B8, &table, WHITE)?;
     let brush = BrushObj::solid(alloc, WHITE);
-    let mask = LentView::on(&MASK, SIZE, Format::B1, 1, false);
+    let mask = LentView::on(&MASK, Layout::new(SIZE, Format::B1, 1, false));
     let mut bytes = picture();
-    let mut dst = LentSurf::on(&mut bytes, SIZE, Format::B8, 8, false);
+    let mut dst = LentSurf::on(&mut bytes, Layout::new(SIZE, Format::B8, 8, false));
     let call = BltCall {
         target: Target::Screen,
         rect: WHOLE,
@@ -205,6 +205,37 @@ fn painted() -> [u8; 64] {
     want
 }
 
+/// The picture after a paint, by the engine's one call for all.
+fn painted_by_any<'a>(
+    alloc: Global,
+    call: PaintCall,
+    table: &'a ColourTable,
+    brush: &'a BrushObj,
+    clip: &mut ClipObj,
+) -> Result<[u8; 64], AllocError>
+    requires inside { All (λ r. LiesIn r (record { w = 8; h = 8 })) clip.old.rects }
+    requires table { length table.now ≡ 256 }
+{
+    let inputs = Inputs {
+        source: None,
+        mask: None,
+        xlate: None,
+        table,
+        brush: Some(brush),
+    };
+    let mut bytes = picture();
+    let layout = Layout::new(SIZE, Format::B8, 8, false);
+    eng_draw(
+        alloc,
+        &mut bytes,
+        layout,
+        &DrawCall::Paint(call),
+        &inputs,
+        clip,
+    )?;
+    Ok(bytes)
+}
+
 #[test]
 fn paints_in_the_clip_alone(rt: HostRuntime) -> Result<(), Fail> {
     let alloc = rt.alloc();
@@ -212,7 +243,7 @@ fn paints_in_the_clip_alone(rt: HostRuntime) -> Result<(), Fail> {
     let table = ColourTable::standard(alloc, Format::B8)?;
     let brush = BrushObj::solid(alloc, WHITE);
     let mut bytes = picture();
-    let mut dst = LentSurf::on(&mut bytes, SIZE, Format::B8, 8, false);
+    let mut dst = LentSurf::on(&mut bytes, Layout::new(SIZE, Format::B8, 8, false));
     let call = PaintCall {
         target: Target::Screen,
         rect: WHOLE,
@@ -221,6 +252,8 @@ fn paints_in_the_clip_alone(rt: HostRuntime) -> Result<(), Fail> {
     };
     eng_paint(&mut dst, &call, &table, &brush, &mut clip);
     assert_eq!(rt; bytes, painted());
+    let again = painted_by_any(alloc, call, &table, &brush, &mut clip)?;
+    assert_eq!(rt; again, painted());
     assert_eq!(rt; clip.count(), 5);
     Ok(())
 }
@@ -239,7 +272,7 @@ fn many_rectangles(rt: HostRuntime) -> Result<(), Fail> {
     let table = ColourTable::standard(alloc, Format::B8)?;
     let brush = BrushObj::solid(alloc, WHITE);
     let mut bytes = [0; 64];
-    let mut dst = LentSurf::on(&mut bytes, SIZE, Format::B8, 8, false);
+    let mut dst = LentSurf::on(&mut bytes, Layout::new(SIZE, Format::B8, 8, false));
     let call = PaintCall {
         target: Target::Screen,
         rect: WHOLE,

@@ -1,6 +1,23 @@
+ghost use Rattle.std.specs.Prelude.{◌≡◌, ◌<◌, ◌^◌};
+ghost use Rattle.geom_base.specs.Points.{point_at};
+
 /// A pixel's place: columns to the right, rows downwards.
 #[derive(Clone, Copy, Debug, PartialEq, Eq)]
 pub struct Point {
     pub x: i32,
     pub y: i32,
+}
+
+impl Point {
+    /// The point at a column of a row.
+    pub fn at(x: u32, y: u32) -> Point
+        requires column { x < 2 ^ 31 }
+        requires row { y < 2 ^ 31 }
+        ensures { result ≡ point_at x y }
+    {
+        Point {
+            x: x as i32,
+            y: y as i32,
+        }
+    }
 }

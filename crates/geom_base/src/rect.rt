@@ -1,6 +1,6 @@
 ghost use Rattle.std.specs.Prelude.{◌≡◌, pos, ◌+ℤ◌, ◌≤ℤ◌, ◌<ℤ◌, ◌↔◌, IsTrue, FitsSigned};
 ghost use Rattle.std.specs.Int.{w32};
-ghost use Rattle.geom_base.specs.Points.{IsIn, moved, no_rect, moved_rect};
+ghost use Rattle.geom_base.specs.Points.{HasPoints, IsIn, has_points, moved, no_rect, moved_rect};
 ghost use Rattle.geom_base.specs.declared.point.Point.{Point};
 
 use crate::point::Point;
@@ -44,6 +44,14 @@ impl Rect {
             right,
             bottom,
         }
+    }
+
+    /// Whether it has points.
+    pub fn has_points(self) -> bool
+        ensures value { result ≡ has_points self }
+        ensures points { IsTrue result ↔ HasPoints self }
+    {
+        self.left < self.right && self.top < self.bottom
     }
 
     /// The rectangle with each edge moved: its points are those of this one, moved.
@@ -101,6 +109,18 @@ mod tests {
         for (a, b, want) in cases {
             assert_eq!(rt; a.intersect(b), want, "{a:?} and {b:?}");
         }
+    }
+
+    #[test]
+    fn rectangles_with_points(rt: HostRuntime) {
+        for (r, want) in [
+            (rect(0, 0, 1, 1), true),
+            (rect(0, 0, 0, 1), false),
+            (rect(0, 2, 1, 1), false),
+        ] {
+            assert_eq!(rt; r.has_points(), want, "{r:?}");
+        }
+        assert_eq!(rt; Point::at(3, 4), Point { x: 3, y: 4 });
     }
 
     #[test]

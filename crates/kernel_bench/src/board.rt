@@ -1,13 +1,16 @@
 //! What the kernels are given: bytes, calls and brushes.
 
-ghost use Rattle.std.specs.Prelude.{◌≡◌, ◌*◌, IfOk, None, length, vec_len};
+ghost use Rattle.geom_base.specs.declared.target.Target.TheVariants.{Screen};
+ghost use Rattle.std.specs.Prelude.{◌≡◌, ◌*◌, IfOk, None, false, length, vec_len};
 ghost use Rattle.pix_format.specs.Value.{bits_of};
+ghost use Rattle.surf_obj.specs.Layout.{layout_from};
 
 use brush_obj::{BltCall, BrushObj, BrushRefusal, CopyCall, Hatch, PaintCall};
 use geom_base::{Point, Rect, Size, Target};
 use pix_format::{ColourTable, Format, Rgb};
 use rop_mix::{Mix, Rop4};
 use std::alloc::{AllocError, Global};
+use surf_obj::Layout;
 
 /// The size of every surface.
 pub const SIZE: Size = Size { w: 1024, h: 768 };
@@ -45,6 +48,13 @@ pub fn stride_of(format: Format) -> u32
     128 * format.bits()
 }
 
+/// How the bytes of a surface hold it.
+pub fn layout_of(format: Format) -> Layout
+    ensures { result ≡ layout_from (record { w = 1024; h = 768 }) format (128 * bits_of format) false }
+{
+    Layout::new(SIZE, format, stride_of(format), false)
+}
+
 /// So many bytes of few values, each of them in four bytes at once, or of many.
 pub fn noise(alloc: Global, len: usize, few: bool) -> Result<Vec<u8>, AllocError>
     ensures { IfOk result (λ v. vec_len v ≡ len) }
@@ -74,7 +84,8 @@ fn scatter(bytes: &mut [u8], few: bool) {
 
 /// A copy, whose source is another surface or the target itself.
 pub fn copy_call(rect: Rect, held: Option<Target>) -> CopyCall
-    ensures { result.held ≡ held }
+    ensures held { result.held ≡ held }
+    ensures target { result.target ≡ Screen }
 {
     CopyCall {
         target: Target::Screen,

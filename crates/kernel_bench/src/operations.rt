@@ -4,8 +4,8 @@ ghost use Rattle.std.specs.Prelude.{◌≡◌, ◌≤◌, ◌*◌, length};
 ghost use Rattle.pix_format.specs.Value.{bits_of};
 
 use crate::board::{
-    SHIFTED, SIZE, WHITE, WHOLE, blt_call, copy_call, hatch, noise, paint_call, pattern, solid,
-    stride_of,
+    SHIFTED, SIZE, WHITE, WHOLE, blt_call, copy_call, hatch, layout_of, noise, paint_call, pattern,
+    solid, stride_of,
 };
 use blt_kernel::{bit_blt_rect, copy_rect, paint_rect};
 use brush_obj::{BrushObj, BrushRefusal};
@@ -96,9 +96,9 @@ fn paint(
         return Ok(());
     };
     let call = paint_call(mix);
-    let stride = stride_of(format);
+    let layout = layout_of(format);
     for _ in 0..count {
-        let mut dst = LentSurf::on(bits, SIZE, format, stride, false);
+        let mut dst = LentSurf::on(bits, layout);
         paint_rect(&mut dst, WHOLE, &call, &table, brush);
     }
     Ok(())
@@ -119,11 +119,11 @@ fn copy(
     let table = ColourTable::standard(alloc, format)?;
     let xlate = XlateObj::build(alloc, from, &from_table, format, &table, WHITE)?;
     let source = noise(alloc, SIZE.h as usize * stride_of(from) as usize, few)?;
-    let view = LentView::on(source.as_slice(), SIZE, from, stride_of(from), false);
+    let view = LentView::on(source.as_slice(), layout_of(from));
     let call = copy_call(WHOLE, None);
-    let stride = stride_of(format);
+    let layout = layout_of(format);
     for _ in 0..count {
-        let mut dst = LentSurf::on(bits, SIZE, format, stride, false);
+        let mut dst = LentSurf::on(bits, layout);
         copy_rect(&mut dst, WHOLE, &call, Some(&view), &xlate);
     }
     Ok(())
@@ -136,9 +136,9 @@ fn move_within(alloc: Global, format: Format, bits: &mut [u8], count: u32) -> Re
     let table = ColourTable::standard(alloc, format)?;
     let xlate = XlateObj::build(alloc, format, &table, format, &table, WHITE)?;
     let call = copy_call(SHIFTED, Some(Target::Screen));
-    let stride = stride_of(format);
+    let layout = layout_of(format);
     for _ in 0..count {
-        let mut dst = LentSurf::on(bits, SIZE, format, stride, false);
+        let mut dst = LentSurf::on(bits, layout);
         copy_rect(&mut dst, SHIFTED, &call, None, &xlate);
     }
     Ok(())
@@ -156,15 +156,15 @@ fn combine(
 {
     let table = ColourTable::standard(alloc, format)?;
     let xlate = XlateObj::build(alloc, format, &table, format, &table, WHITE)?;
-    let stride = stride_of(format);
-    let source = noise(alloc, SIZE.h as usize * stride as usize, false)?;
-    let view = LentView::on(source.as_slice(), SIZE, format, stride, false);
+    let layout = layout_of(format);
+    let source = noise(alloc, SIZE.h as usize * layout.stride as usize, false)?;
+    let view = LentView::on(source.as_slice(), layout);
     let choice = noise(alloc, 98304, false)?;
-    let mask = LentView::on(choice.as_slice(), SIZE, Format::B1, 128, false);
+    let mask = LentView::on(choice.as_slice(), layout_of(Format::B1));
     let brush = pattern(alloc)?;
     let call = blt_call(code);
     for _ in 0..count {
-        let mut dst = LentSurf::on(bits, SIZE, format, stride, false);
+        let mut dst = LentSurf::on(bits, layout);
         bit_blt_rect(
             &mut dst,
             WHOLE,

@@ -1,4 +1,4 @@
-use Rattle.std.proofs.Common.{◌≡◌, ℕ, ◌*◌, ◌%◌, ◌^◌, ◌<◌, ◌≤◌, List, [], ◌∷◌, length, get_or, All, max, min, ◌-◌, zero, suc, refl, rules, arith}
+use Rattle.std.proofs.Common.{◌≡◌, ℕ, ◌+◌, ◌*◌, ◌/◌, ◌%◌, ◌^◌, ◌<◌, List, [], ◌∷◌, length, get_or, All, max, min, ◌-◌, zero, suc, refl, rules, arith}
 use Rattle.std.specs.Prelude.{EachIndex, slice_index}
 use Rattle.std.proofs.lemmas.List.MinMax.{IsFirstBest-from_best_of, IsStrictWeakOrder-by_number}
 use Rattle.std.proofs.lemmas.List.{get_or_default}
@@ -8,7 +8,7 @@ use Rattle.pix_format.specs.declared.rgb.Rgb.{Rgb}
 use Rattle.pix_format.specs.declared.format.Format.{Format}
 use Rattle.pix_format.specs.declared.format.Format.TheVariants.{B1, B4, B8, B555, B565, B24, B32}
 use Rattle.pix_format.specs.Colour.{distance, nearest, squared_difference, IsNearest}
-use Rattle.pix_format.specs.Packing.{unpacked888}
+use Rattle.pix_format.specs.Packing.{packed888, unpacked888}
 use Rattle.pix_format.specs.Value.{bits_of, black, colours_of, colour_of, value_of}
 use Rattle.pix_format.proofs.TableLemmas.{IsFirstBest-nearest}
 
@@ -57,7 +57,8 @@ nearest-exact table c v inside is =
     same_from_distance (get_or table (nearest table c) black) c (grind (arith, nat_tests))
 
 -- a colour that some value stands for gets a value that stands for it
-pub value_of-exact : (format : Format) (table : List Rgb) (c : Rgb) (v : ℕ) → length table ≡ colours_of format → v < 2 ^ bits_of format → colour_of format table v ≡ c → colour_of format table (value_of format table c) ≡ c
+pub value_of-exact : (format : Format) (table : List Rgb) (c : Rgb) (v : ℕ) → length table ≡ colours_of format → v < 2 ^ bits_of format →
+    colour_of format table v ≡ c → colour_of format table (value_of format table c) ≡ c
 value_of-exact B1 table c v fits inside is = nearest-exact table c v (omega arith) is
 value_of-exact B4 table c v fits inside is = nearest-exact table c v (omega arith) is
 value_of-exact B8 table c v fits inside is = nearest-exact table c v (omega arith) is
@@ -67,7 +68,8 @@ value_of-exact B24 table c v fits inside is = search rules
 value_of-exact B32 table c v fits inside is = search rules
 
 -- the value of a colour of eight bits a channel fits its format
-pub value_of-fits : (format : Format) (table : List Rgb) (c : Rgb) → length table ≡ colours_of format → c.r < 256 → c.g < 256 → c.b < 256 → value_of format table c < 2 ^ bits_of format
+pub value_of-fits : (format : Format) (table : List Rgb) (c : Rgb) → length table ≡ colours_of format → c.r < 256 → c.g < 256 → c.b < 256 →
+    value_of format table c < 2 ^ bits_of format
 value_of-fits B1 table c fits r g b = rw (← fits) (nearest-below table c (omega arith))
 value_of-fits B4 table c fits r g b = rw (← fits) (nearest-below table c (omega arith))
 value_of-fits B8 table c fits r g b = rw (← fits) (nearest-below table c (omega arith))
@@ -77,17 +79,16 @@ value_of-fits B24 table c fits r g b = omega arith
 value_of-fits B32 table c fits r g b = omega arith
 
 -- a row of values of colours fits
-pub values-fit : (format : Format) (table : List Rgb) (old new : List ℕ) → length table ≡ colours_of format → EachIndex new (λ k. slice_index new k ≡ value_of format table (unpacked888 (slice_index old k))) → All (λ v. v < 2 ^ bits_of format) new
+pub values-fit : (format : Format) (table : List Rgb) (old new : List ℕ) → length table ≡ colours_of format →
+    EachIndex new (λ k. slice_index new k ≡ value_of format table (unpacked888 (slice_index old k))) → All (λ v. v < 2 ^ bits_of format) new
 values-fit format table old new fits each k d inside =
     let colour = unpacked888 (get_or old k 0) in
     rw (get_or_default new k d 0 inside, each k inside) (value_of-fits format table colour fits (omega arith) (omega arith) (omega arith))
 
--- as many values as a small format has bits for
-pub count_of_values : (format : Format) (bits value : ℕ) → bits ≡ bits_of format → bits_of format ≤ 8 → (1 * 2 ^ bits) % 4294967296 ≤ value → value ≤ (1 * 2 ^ bits) % 4294967296 → value ≡ 2 ^ bits_of format
-count_of_values B1 bits value is small above below = let above' = rw is at above in let below' = rw is at below in omega arith
-count_of_values B4 bits value is small above below = let above' = rw is at above in let below' = rw is at below in omega arith
-count_of_values B8 bits value is small above below = let above' = rw is at above in let below' = rw is at below in omega arith
-count_of_values B555 bits value is small above below = absurd (omega arith)
-count_of_values B565 bits value is small above below = absurd (omega arith)
-count_of_values B24 bits value is small above below = absurd (omega arith)
-count_of_values B32 bits value is small above below = absurd (omega arith)
+-- a colour of eight bits a channel stands in three bytes
+pub packed_and_unpacked888 : (c : Rgb) → c.r < 256 → c.g < 256 → c.b < 256 → unpacked888 (packed888 c) ≡ c
+packed_and_unpacked888 c r g b =
+    let red : (c.r * 65536 + c.g * 256 + c.b) / 65536 % 256 ≡ c.r = omega arith in
+    let green : (c.r * 65536 + c.g * 256 + c.b) / 256 % 256 ≡ c.g = omega arith in
+    let blue : (c.r * 65536 + c.g * 256 + c.b) % 256 ≡ c.b = omega arith in
+    λ i. record { r = red i; g = green i; b = blue i }

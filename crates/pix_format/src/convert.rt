@@ -8,8 +8,8 @@ use crate::colour_table::ColourTable;
 use crate::format::Format;
 use crate::ready::{is_same_kind, is_to_mono};
 use crate::rgb::Rgb;
-use crate::row::mark;
-use crate::value::{colour_of, value_of};
+use crate::row::{mark, recolour};
+use crate::value::value_of;
 
 /// The values of a row of one surface as they are drawn on another, in place and without memory; `back` is the background
 /// colour. For more than a few rows make an `XlateObj`, which looks colours up once.
@@ -25,7 +25,7 @@ pub fn convert_row(
     requires to { length to_table.now ≡ colours_of to }
     requires values { All (λ v. v < 2 ^ bits_of from) values.old }
     ensures values { EachIndex values.new (λ k. slice_index values.new k ≡ convert from from_table.now to to_table.now back (slice_index values.old k)) }
-    ensures fit { All (λ v. v < 2 ^ bits_of to) values.new }
+    ensures fits { All (λ v. v < 2 ^ bits_of to) values.new }
 {
     if is_same_kind(from, from_table, to, to_table) {
         return;
@@ -34,7 +34,5 @@ pub fn convert_row(
         mark(values, value_of(from, from_table, back));
         return;
     }
-    for k in 0..values.len() {
-        values[k] = value_of(to, to_table, colour_of(from, from_table, values[k]));
-    }
+    recolour(values, from, from_table, to, to_table);
 }

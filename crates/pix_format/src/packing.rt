@@ -24,6 +24,7 @@ pub fn packed565(colour: Rgb) -> u32
 /// A byte for each channel, red highest.
 pub fn packed888(colour: Rgb) -> u32
     ensures value { result ≡ spec.packed888 colour }
+    ensures colour { spec.unpacked888 result ≡ colour }
     ensures fits { result < 2 ^ 24 }
 {
     u32::from(colour.r) * 65536 + u32::from(colour.g) * 256 + u32::from(colour.b)

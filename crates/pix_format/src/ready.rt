@@ -1,16 +1,16 @@
 //! What a translation keeps ready for its pixels.
 
-ghost use Rattle.std.specs.Prelude.{◌≡◌, ◌<◌, ◌≤◌, ◌^◌, All, IfOk, length, map};
-ghost use Rattle.std.specs.List.{range_with_len};
+ghost use Rattle.std.specs.Prelude.{◌≡◌, ◌<◌, ◌^◌, All, IfOk, length, map};
 ghost use Rattle.pix_format.specs.Translate as spec;
-ghost use Rattle.pix_format.specs.Translate.{recoloured, same_kind};
-ghost use Rattle.pix_format.specs.Value.{bits_of, colours_of};
-ghost use Rattle.pix_format.specs.Ready.{IsReady};
+ghost use Rattle.pix_format.specs.Translate.{same_kind};
+ghost use Rattle.pix_format.specs.Value.{bits_of, colours_of, value_of};
+ghost use Rattle.pix_format.specs.InnerReady.{IsReady};
 
 use crate::colour_table::ColourTable;
 use crate::format::Format;
 use crate::rgb::Rgb;
-use crate::value::{colour_of, value_of};
+use crate::row::values_of_row;
+use crate::value::value_of;
 use std::alloc::{AllocError, Global};
 
 /// What a translation keeps ready, by its kind.
@@ -49,7 +49,7 @@ impl Ready {
         if from.bits() > 8 {
             return Ok(Ready::PerPixel);
         }
-        let values = new_values(alloc, from, from_table, to, to_table)?;
+        let values = new_values(alloc, from_table.colours(), to, to_table)?;
         Ok(Ready::Values(values))
     }
 }
@@ -73,25 +73,18 @@ pub fn is_to_mono(from: Format, to: Format) -> bool
     to == Format::B1 && from != Format::B1
 }
 
-/// The value on another surface of each value of a small format.
+/// The values on another surface of the colours of a table.
 fn new_values(
     alloc: Global,
-    from: Format,
-    from_table: &ColourTable,
+    colours: &[Rgb],
     to: Format,
     to_table: &ColourTable,
 ) -> Result<Vec<u32>, AllocError>
-    requires from { length from_table.now ≡ colours_of from }
-    requires to { length to_table.now ≡ colours_of to }
-    requires small { bits_of from ≤ 8 }
-    ensures values { IfOk result (λ t. t.items ≡ map (recoloured from from_table.now to to_table.now) (range_with_len 0 (2 ^ bits_of from))) }
-    ensures fit { IfOk result (λ t. All (λ v. v < 2 ^ bits_of to) t.items) }
+    requires { length to_table.now ≡ colours_of to }
+    ensures values { IfOk result (λ t. t.items ≡ map (value_of to to_table.now) colours.now) }
+    ensures fits { IfOk result (λ t. All (λ v. v < 2 ^ bits_of to) t.items) }
 {
-    let count = 1 << from.bits();
-    let mut values = Vec::with_capacity(alloc, count as usize)?;
-    for value in 0..count {
-        let colour = colour_of(from, from_table, value);
-        values.push(value_of(to, to_table, colour))?;
-    }
+    let mut values = vec![in alloc; 0; colours.len()]?;
+    values_of_row(to, to_table, colours, values.as_mut_slice());
     Ok(values)
 }

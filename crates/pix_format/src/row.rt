@@ -1,9 +1,10 @@
-//! Rows of values, changed in place.
+//! Rows of colours and of values.
 
 ghost use Rattle.std.specs.Prelude.{◌≡◌, ◌<◌, ◌^◌, ◌==◌, if◌then◌else◌, All, EachIndex, length, slice_index, slice_index_or};
 ghost use Rattle.pix_format.specs.Colour as colour;
-ghost use Rattle.pix_format.specs.Kept.{KeepsNearest};
+ghost use Rattle.pix_format.specs.InnerKept.{KeepsNearest};
 ghost use Rattle.pix_format.specs.Packing as packing;
+ghost use Rattle.pix_format.specs.Translate.{recoloured};
 ghost use Rattle.pix_format.specs.Value.{bits_of, black, colours_of};
 ghost use Rattle.pix_format.specs.Value as spec;
 
@@ -32,11 +33,43 @@ pub fn mark(values: &mut [u32], background: u32)
     }
 }
 
-/// The values of a row become those that stand for their colours in three bytes.
-pub fn unpack(values: &mut [u32], format: Format, table: &ColourTable)
+/// The values that stand for a row of colours on a surface of this format and table, as `value_of` gives them one by one.
+/// Colours come again along a row, so a table is searched once for most of them.
+pub fn values_of_row(format: Format, table: &ColourTable, colours: &[Rgb], values: &mut [u32])
+    requires table { length table.now ≡ colours_of format }
+    requires colours { length colours.now ≡ length values.old }
+    ensures values { EachIndex values.new (λ k. slice_index values.new k ≡ spec.value_of format table.now (slice_index_or colours.now k black)) }
+    ensures fits { All (λ v. v < 2 ^ bits_of format) values.new }
+{
+    for k in 0..values.len() {
+        values[k] = packed888(colours[k]);
+    }
+    pack(values, format, table);
+}
+
+/// The values of a row become those that stand for their colours on another surface.
+pub fn recolour(
+    values: &mut [u32],
+    from: Format,
+    from_table: &ColourTable,
+    to: Format,
+    to_table: &ColourTable,
+)
+    requires from { length from_table.now ≡ colours_of from }
+    requires to { length to_table.now ≡ colours_of to }
+    requires values { All (λ v. v < 2 ^ bits_of from) values.old }
+    ensures values { EachIndex values.new (λ k. slice_index values.new k ≡ recoloured from from_table.now to to_table.now (slice_index values.old k)) }
+    ensures fits { All (λ v. v < 2 ^ bits_of to) values.new }
+{
+    unpack(values, from, from_table);
+    pack(values, to, to_table);
+}
+
+/// The values of a row become their colours, in three bytes each.
+fn unpack(values: &mut [u32], format: Format, table: &ColourTable)
     requires table { length table.now ≡ colours_of format }
     requires values { All (λ v. v < 2 ^ bits_of format) values.old }
-    ensures { EachIndex values.new (λ k. slice_index values.new k ≡ packing.packed888 (spec.colour_of format table.now (slice_index values.old k))) }
+    ensures { EachIndex values.new (λ k. packing.unpacked888 (slice_index values.new k) ≡ spec.colour_of format table.now (slice_index values.old k)) }
 {
     match format {
         Format::B1 | Format::B4 | Format::B8 => unpack_table(values, table.colours()),
@@ -47,9 +80,10 @@ pub fn unpack(values: &mut [u32], format: Format, table: &ColourTable)
 }
 
 /// The values of a row, colours in three bytes each, become those of another format.
-pub fn pack(values: &mut [u32], format: Format, table: &ColourTable)
+fn pack(values: &mut [u32], format: Format, table: &ColourTable)
     requires { length table.now ≡ colours_of format }
-    ensures { EachIndex values.new (λ k. slice_index values.new k ≡ spec.value_of format table.now (packing.unpacked888 (slice_index values.old k))) }
+    ensures values { EachIndex values.new (λ k. slice_index values.new k ≡ spec.value_of format table.now (packing.unpacked888 (slice_index values.old k))) }
+    ensures fits { All (λ v. v < 2 ^ bits_of format) values.new }
 {
     match format {
         Format::B1 | Format::B4 | Format::B8 => pack_table(values, table.colours()),
@@ -72,7 +106,7 @@ fn each<F: Fn(u32) -> u32>(values: &mut [u32], rule: F)
 /// The colour of each index, in three bytes.
 fn unpack_table(values: &mut [u32], table: &[Rgb])
     requires { All (λ v. v < length table.now) values.old }
-    ensures { EachIndex values.new (λ k. slice_index values.new k ≡ packing.packed888 (slice_index_or table.now (slice_index values.old k) black)) }
+    ensures { EachIndex values.new (λ k. packing.unpacked888 (slice_index values.new k) ≡ slice_index_or table.now (slice_index values.old k) black) }
 {
     for i in 0..values.len() {
         values[i] = packed888(table[values[i] as usize]);

@@ -3,7 +3,9 @@
 ghost use Rattle.std.specs.Prelude.{◌<◌, ◌^◌};
 ghost use Rattle.pix_format.specs.Value.{bits_of};
 
-use crate::{ColourTable, Format, Rgb, XlateKind, XlateObj, colour_of, convert_row, value_of};
+use crate::{
+    ColourTable, Format, Rgb, XlateKind, XlateObj, colour_of, convert_row, value_of, values_of_row,
+};
 use std::alloc::{AllocError, Global};
 
 const FORMATS: [Format; 7] = [
@@ -70,6 +72,23 @@ fn values_of_colours(rt: HostRuntime) -> Result<(), AllocError> {
                 "{colour} as {format:?}"
             );
         }
+    }
+    Ok(())
+}
+
+#[test]
+fn values_of_a_row_of_colours(rt: HostRuntime) -> Result<(), AllocError> {
+    let colours = [rgb(0x120000), rgb(0xff0000), rgb(0x6bffd1), rgb(0xff0000)];
+    let rows = [
+        (Format::B4, [0, 5, 11, 5]),
+        (Format::B8, [0x00, 0xe0, 0x7e, 0xe0]),
+        (Format::B565, [0x1000, 0xf800, 0x6ffa, 0xf800]),
+    ];
+    for (format, want) in rows {
+        let table = ColourTable::standard(rt.alloc(), format)?;
+        let mut row = [0; 4];
+        values_of_row(format, &table, &colours, &mut row);
+        assert_eq!(rt; row, want, "{format:?}");
     }
     Ok(())
 }

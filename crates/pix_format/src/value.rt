@@ -17,7 +17,8 @@ pub fn value_of(format: Format, table: &ColourTable, colour: Rgb) -> u32
     ensures value { result ≡ spec.value_of format table.now colour }
     ensures nearest { 0 < colours_of format → IsNearest table.now colour result }
     // a colour that some value stands for gets a value that stands for it
-    ensures exact { (v : ℕ) → v < 2 ^ bits_of format → spec.colour_of format table.now v ≡ colour → spec.colour_of format table.now result ≡ colour }
+    ensures exact { (v : ℕ) → v < 2 ^ bits_of format → spec.colour_of format table.now v ≡ colour →
+        spec.colour_of format table.now result ≡ colour }
     ensures fits { result < 2 ^ bits_of format }
 {
     match format {

@@ -8,7 +8,7 @@ use crate::colour_table::ColourTable;
 use crate::format::Format;
 use crate::ready::Ready;
 use crate::rgb::Rgb;
-use crate::row::{look_up, mark, pack, unpack};
+use crate::row::{look_up, mark, recolour};
 use crate::value::{colour_of, value_of};
 use std::alloc::{AllocError, Global};
 use std::marker::Model;
@@ -42,13 +42,14 @@ impl Model for XlateObj {
     ghost use Rattle.std.specs.Prelude.{length, ◌≡◌};
     ghost use Rattle.pix_format.specs.Value.{colours_of};
     ghost use Rattle.pix_format.specs.Xlate.{Translation};
-    ghost use Rattle.pix_format.specs.Ready.{IsReady};
+    ghost use Rattle.pix_format.specs.InnerReady.{IsReady};
 
     ghost Value = { Translation };
 
     ghost view = { λ x. record { from = x.from; from_table = x.from_table; to = x.to; to_table = x.to_table; back = x.back } };
 
-    ghost invariant = { λ x. (length x.from_table ≡ colours_of x.from) × (length x.to_table ≡ colours_of x.to) × IsReady (record { from = x.from; from_table = x.from_table; to = x.to; to_table = x.to_table; back = x.back }) x.ready };
+    ghost invariant = { λ x. (length x.from_table ≡ colours_of x.from) × (length x.to_table ≡ colours_of x.to) ×
+        IsReady (record { from = x.from; from_table = x.from_table; to = x.to; to_table = x.to_table; back = x.back }) x.ready };
 }
 
 impl XlateObj {
@@ -117,16 +118,19 @@ impl XlateObj {
     pub fn xlate_row(&self, values: &mut [u32])
         requires { All (λ v. v < 2 ^ bits_of self.now.from) values.old }
         ensures values { EachIndex values.new (λ k. slice_index values.new k ≡ translated self.now (slice_index values.old k)) }
-        ensures fit { All (λ v. v < 2 ^ bits_of self.now.to) values.new }
+        ensures fits { All (λ v. v < 2 ^ bits_of self.now.to) values.new }
     {
         match &self.ready {
             Ready::Same => {}
             Ready::Background(background) => mark(values, *background),
             Ready::Values(table) => look_up(values, table.as_slice()),
-            Ready::PerPixel => {
-                unpack(values, self.from, &self.from_table);
-                pack(values, self.to, &self.to_table);
-            }
+            Ready::PerPixel => recolour(
+                values,
+                self.from,
+                &self.from_table,
+                self.to,
+                &self.to_table,
+            ),
         }
     }
 }

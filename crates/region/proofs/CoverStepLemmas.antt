@@ -2,22 +2,21 @@ use Rattle.std.proofs.Common.{◌≡◌, ◌∙◌, ℤ, ◌+◌, ◌≤◌, ◌
 use Rattle.std.proofs.lemmas.Int.{ints}
 use Rattle.std.proofs.lemmas.List.{append-nil}
 use Rattle.std.proofs.lemmas.Bool.{false≢true}
+use Rattle.std.proofs.lemmas.Bool.{cases_Bool}
 use Rattle.region.specs.declared.step.Step.{Step}
 use Rattle.region.specs.declared.strip.Strip.{Strip}
 use Rattle.region.specs.declared.cover.Cover.{Cover}
 use Rattle.region.specs.declared.cover.Cover.TheVariants.{Cell, Pair'}
-use Rattle.region.specs.Columns.{column, IsColumns}
-use Rattle.region.specs.Strip.{within}
-use Rattle.region.specs.Steps.{value_at, final_value, BeginsAfter, BeginsFrom, AllFit, IsReduced}
-use Rattle.region.specs.Cover.{strip_of, covers, filled_in, last_in, change, steps_in, columns_in, IsShaped, IsCover}
-use Rattle.region.specs.BandList.{run_count}
+use Rattle.region.specs.Columns.{column}
+use Rattle.region.specs.InnerColumns.{IsColumns}
+use Rattle.region.specs.InnerStrip.{within}
+use Rattle.region.specs.Steps.{value_at, final_value, BeginsAfter, IsReduced}
+use Rattle.region.specs.InnerSteps.{BeginsFrom, AllFit}
+use Rattle.region.specs.InnerCover.{strip_of, covers, filled_in, last_in, change, steps_in, columns_in, IsShaped, IsCover}
+use Rattle.region.specs.InnerBandList.{run_count}
 use Rattle.region.proofs.StepLemmas.{ge_is, at_or_before, value_at-before, BeginsAfter-earlier}
-use Rattle.region.proofs.CoverLemmas.{tested, within_is, within_if, has_width, has_size, not_covered, run_count-append}
+use Rattle.region.proofs.CoverLemmas.{or_none, within_is, within_if, has_width, has_size, not_covered, run_count-append}
 use Rattle.region.proofs.CoverTurnLemmas.{told, parts_last}
-
-or_alone : (a b : Bool) → b ≡ false → a ≡ (a || b)
-or_alone true b e = refl
-or_alone false b e = sym e
 
 or_other : (a b : Bool) → a ≡ false → b ≡ (a || b)
 or_other a b e = rw e refl
@@ -44,7 +43,8 @@ change_value true false from rest x h = rw (ge_is x from h) refl
 change_value false true from rest x h = rw (ge_is x from h) refl
 change_value false false from rest x h = refl
 
-change_reduced : (before u : Bool) (from : ℤ) (rest : List (Step Bool)) → BeginsAfter from rest → IsReduced column u rest → IsReduced column before (change before u from ++ rest)
+change_reduced : (before u : Bool) (from : ℤ) (rest : List (Step Bool)) → BeginsAfter from rest → IsReduced column u rest →
+    IsReduced column before (change before u from ++ rest)
 change_reduced true true from rest b h = h
 change_reduced true false from rest b h = ((λ same. false≢true (same (pos 0))), b, h)
 change_reduced false true from rest b h = ((λ same. false≢true (sym (same (pos 0)))), b, h)
@@ -67,44 +67,53 @@ begins_after x to rest h b = BeginsAfter-earlier x to rest h b
 
 -- the steps of a row, and what follows
 
-joined : (l r : Cover) (y : ℤ) (before : Bool) (rest : List (Step Bool)) → (steps_in l y before ++ steps_in r y (last_in l y)) ++ rest ≡ steps_in l y before ++ (steps_in r y (last_in l y) ++ rest)
+joined : (l r : Cover) (y : ℤ) (before : Bool) (rest : List (Step Bool)) →
+    (steps_in l y before ++ steps_in r y (last_in l y)) ++ rest ≡ steps_in l y before ++ (steps_in r y (last_in l y) ++ rest)
 joined l r y before rest = append_assoc (steps_in l y before) (steps_in r y (last_in l y)) rest
 
-steps_begin : (t : Cover) → IsShaped t → (y : ℤ) (before : Bool) (rest : List (Step Bool)) → BeginsFrom (strip_of t).to rest → BeginsFrom (strip_of t).from (steps_in t y before ++ rest)
+steps_begin : (t : Cover) → IsShaped t → (y : ℤ) (before : Bool) (rest : List (Step Bool)) → BeginsFrom (strip_of t).to rest →
+    BeginsFrom (strip_of t).from (steps_in t y before ++ rest)
 steps_begin (Cell s) h y before rest b = change_begins before (int_lt y s.until) s.from s.to rest h.0 b
-steps_begin (Pair' s p l q r) h y before rest b = elim (tested (int_lt y s.until)) [
+steps_begin (Pair' s p l q r) h y before rest b = elim (cases_Bool (int_lt y s.until)) [
   | inl e ↦ rw e (change_begins before true s.from s.to rest (has_width (Pair' s p l q r) h) b)
   | inr e ↦
       let right = steps_begin r h.5 y (last_in l y) rest (subst (λ z. BeginsFrom z rest) h.2 b) in
-      let left = steps_begin l h.4 y before (steps_in r y (last_in l y) ++ rest) (subst (λ z. BeginsFrom z (steps_in r y (last_in l y) ++ rest)) (sym h.1) right) in
-      rw e (subst (BeginsFrom s.from) (sym (joined l r y before rest)) (subst (λ z. BeginsFrom z (steps_in l y before ++ (steps_in r y (last_in l y) ++ rest))) (sym h.0) left))
+      let left = steps_begin l h.4 y before (steps_in r y (last_in l y) ++ rest)
+      (subst (λ z. BeginsFrom z (steps_in r y (last_in l y) ++ rest)) (sym h.1) right) in
+      rw e (subst (BeginsFrom s.from) (sym (joined l r y before rest))
+      (subst (λ z. BeginsFrom z (steps_in l y before ++ (steps_in r y (last_in l y) ++ rest))) (sym h.0) left))
 ]
 
-steps_reduced : (t : Cover) → IsShaped t → (y : ℤ) (before : Bool) (rest : List (Step Bool)) → BeginsFrom (strip_of t).to rest → IsReduced column (last_in t y) rest → IsReduced column before (steps_in t y before ++ rest)
+steps_reduced : (t : Cover) → IsShaped t → (y : ℤ) (before : Bool) (rest : List (Step Bool)) → BeginsFrom (strip_of t).to rest →
+    IsReduced column (last_in t y) rest → IsReduced column before (steps_in t y before ++ rest)
 steps_reduced (Cell s) h y before rest b k = change_reduced before (int_lt y s.until) s.from rest (begins_after s.from s.to rest h.0 b) k
-steps_reduced (Pair' s p l q r) h y before rest b k = elim (tested (int_lt y s.until)) [
+steps_reduced (Pair' s p l q r) h y before rest b k = elim (cases_Bool (int_lt y s.until)) [
   | inl e ↦ rw e (change_reduced before true s.from rest (begins_after s.from s.to rest (has_width (Pair' s p l q r) h) b) (rw e at k))
   | inr e ↦
       let c = subst (λ z. BeginsFrom z rest) h.2 b in
       let right = steps_reduced r h.5 y (last_in l y) rest c (rw e at k) in
-      let left = steps_reduced l h.4 y before (steps_in r y (last_in l y) ++ rest) (subst (λ z. BeginsFrom z (steps_in r y (last_in l y) ++ rest)) (sym h.1) (steps_begin r h.5 y (last_in l y) rest c)) right in
+      let left = steps_reduced l h.4 y before (steps_in r y (last_in l y) ++ rest)
+      (subst (λ z. BeginsFrom z (steps_in r y (last_in l y) ++ rest)) (sym h.1) (steps_begin r h.5 y (last_in l y) rest c)) right in
       rw e (subst (IsReduced column before) (sym (joined l r y before rest)) left)
 ]
 
 steps_final : (t : Cover) (y : ℤ) (before : Bool) (rest : List (Step Bool)) → final_value before (steps_in t y before ++ rest) ≡ final_value (last_in t y) rest
 steps_final (Cell s) y before rest = change_final before (int_lt y s.until) s.from rest
-steps_final (Pair' s p l q r) y before rest = elim (tested (int_lt y s.until)) [
+steps_final (Pair' s p l q r) y before rest = elim (cases_Bool (int_lt y s.until)) [
   | inl e ↦ rw e (change_final before true s.from rest)
-  | inr e ↦ rw e (ap (final_value before) (joined l r y before rest) ∙ steps_final l y before (steps_in r y (last_in l y) ++ rest) ∙ steps_final r y (last_in l y) rest)
+  | inr e ↦ rw e (ap (final_value before) (joined l r y before rest) ∙ steps_final l y before (steps_in r y (last_in l y) ++ rest)
+      ∙ steps_final r y (last_in l y) rest)
 ]
 
 pub fits_between : (z : ℤ) → negsuc 2147483647 ≤ℤ z → z ≤ℤ pos 2147483647 → FitsSigned w32 z
 fits_between z h k = omega (arith, ints)
 
-steps_fit : (t : Cover) → IsShaped t → (y : ℤ) (before : Bool) (rest : List (Step Bool)) → negsuc 2147483647 ≤ℤ (strip_of t).from → (strip_of t).to ≤ℤ pos 2147483647 → AllFit rest → AllFit (steps_in t y before ++ rest)
+steps_fit : (t : Cover) → IsShaped t → (y : ℤ) (before : Bool) (rest : List (Step Bool)) → negsuc 2147483647 ≤ℤ (strip_of t).from →
+    (strip_of t).to ≤ℤ pos 2147483647 → AllFit rest → AllFit (steps_in t y before ++ rest)
 steps_fit (Cell s) h y before rest lo hi f = change_fits before (int_lt y s.until) s.from rest (fits_between s.from lo (omega (arith, ints, h.0, hi))) f
-steps_fit (Pair' s p l q r) h y before rest lo hi f = elim (tested (int_lt y s.until)) [
-  | inl e ↦ rw e (change_fits before true s.from rest (fits_between s.from lo (let w : s.from <ℤ s.to = has_width (Pair' s p l q r) h in omega (arith, ints, w, hi))) f)
+steps_fit (Pair' s p l q r) h y before rest lo hi f = elim (cases_Bool (int_lt y s.until)) [
+  | inl e ↦ rw e (change_fits before true s.from rest
+      (fits_between s.from lo (let w : s.from <ℤ s.to = has_width (Pair' s p l q r) h in omega (arith, ints, w, hi))) f)
   | inr e ↦
       let a : (strip_of l).from <ℤ (strip_of l).to = has_width l h.4 in
       let b : (strip_of r).from <ℤ (strip_of r).to = has_width r h.5 in
@@ -113,26 +122,31 @@ steps_fit (Pair' s p l q r) h y before rest lo hi f = elim (tested (int_lt y s.u
       rw e (subst AllFit (sym (joined l r y before rest)) left)
 ]
 
-steps_after : (t : Cover) → IsShaped t → (y : ℤ) (before : Bool) (rest : List (Step Bool)) (x : ℤ) → (strip_of t).to ≤ℤ x → value_at before (steps_in t y before ++ rest) x ≡ value_at (last_in t y) rest x
+steps_after : (t : Cover) → IsShaped t → (y : ℤ) (before : Bool) (rest : List (Step Bool)) (x : ℤ) → (strip_of t).to ≤ℤ x →
+    value_at before (steps_in t y before ++ rest) x ≡ value_at (last_in t y) rest x
 steps_after (Cell s) h y before rest x k = change_value before (int_lt y s.until) s.from rest x (omega (arith, ints, h.0, k))
-steps_after (Pair' s p l q r) h y before rest x k = elim (tested (int_lt y s.until)) [
+steps_after (Pair' s p l q r) h y before rest x k = elim (cases_Bool (int_lt y s.until)) [
   | inl e ↦ rw e (change_value before true s.from rest x (let w : s.from <ℤ s.to = has_width (Pair' s p l q r) h in omega (arith, ints, w, k)))
   | inr e ↦
       let b : (strip_of r).from <ℤ (strip_of r).to = has_width r h.5 in
-      rw e (ap (λ u. value_at before u x) (joined l r y before rest) ∙ steps_after l h.4 y before (steps_in r y (last_in l y) ++ rest) x (omega (arith, ints, k, h.2, h.1, b)) ∙ steps_after r h.5 y (last_in l y) rest x (omega (arith, ints, k, h.2)))
+      rw e (ap (λ u. value_at before u x) (joined l r y before rest)
+      ∙ steps_after l h.4 y before (steps_in r y (last_in l y) ++ rest) x (omega (arith, ints, k, h.2, h.1, b))
+      ∙ steps_after r h.5 y (last_in l y) rest x (omega (arith, ints, k, h.2)))
 ]
 
 cell_value : (u w : Bool) → w ≡ true → u ≡ (if u then w else false)
 cell_value true w e = sym e
 cell_value false w e = refl
 
-steps_inside : (t : Cover) → IsShaped t → (y : ℤ) (before : Bool) (rest : List (Step Bool)) → BeginsFrom (strip_of t).to rest → (x : ℤ) → within (strip_of t) x ≡ true → value_at before (steps_in t y before ++ rest) x ≡ covers t y x
+steps_inside : (t : Cover) → IsShaped t → (y : ℤ) (before : Bool) (rest : List (Step Bool)) → BeginsFrom (strip_of t).to rest → (x : ℤ) →
+    within (strip_of t) x ≡ true → value_at before (steps_in t y before ++ rest) x ≡ covers t y x
 steps_inside (Cell s) h y before rest b x w =
     let i : (s.from ≤ℤ x) × (x <ℤ s.to) = within_is s x w in
-    change_value before (int_lt y s.until) s.from rest x i.0 ∙ value_at-before (int_lt y s.until) rest x (begins_after x s.to rest i.1 b) ∙ cell_value (int_lt y s.until) (within s x) w
+    change_value before (int_lt y s.until) s.from rest x i.0 ∙ value_at-before (int_lt y s.until) rest x (begins_after x s.to rest i.1 b)
+    ∙ cell_value (int_lt y s.until) (within s x) w
 steps_inside (Pair' s p l q r) h y before rest b x w =
     let i : (s.from ≤ℤ x) × (x <ℤ s.to) = within_is s x w in
-    elim (tested (int_lt y s.until)) [
+    elim (cases_Bool (int_lt y s.until)) [
       | inl e ↦ rw e (change_value before true s.from rest x i.0 ∙ value_at-before true rest x (begins_after x s.to rest i.1 b) ∙ sym w)
       | inr e ↦
           let c = subst (λ z. BeginsFrom z rest) h.2 b in
@@ -140,10 +154,12 @@ steps_inside (Pair' s p l q r) h y before rest b x w =
           rw e (ap (λ u. value_at before u x) (joined l r y before rest) ∙ elim (at_or_before x (strip_of l).to) [
             | inl k ↦
                 let v : within (strip_of l) x ≡ true = within_if (strip_of l) x (omega (arith, ints, i.0, h.0)) k in
-                steps_inside l h.4 y before (steps_in r y (last_in l y) ++ rest) d x v ∙ or_alone (covers l y x) (covers r y x) (not_covered r h.5 y x (right_of (strip_of r) x (omega (arith, ints, k, h.1))))
+                steps_inside l h.4 y before (steps_in r y (last_in l y) ++ rest) d x v
+                ∙ sym (or_none (covers l y x) (covers r y x) (not_covered r h.5 y x (right_of (strip_of r) x (omega (arith, ints, k, h.1)))))
             | inr k ↦
                 let v : within (strip_of r) x ≡ true = within_if (strip_of r) x (omega (arith, ints, k, h.1)) (omega (arith, ints, i.1, h.2)) in
-                steps_after l h.4 y before (steps_in r y (last_in l y) ++ rest) x k ∙ steps_inside r h.5 y (last_in l y) rest c x v ∙ or_other (covers l y x) (covers r y x) (not_covered l h.4 y x (left_of (strip_of l) x k))
+                steps_after l h.4 y before (steps_in r y (last_in l y) ++ rest) x k ∙ steps_inside r h.5 y (last_in l y) rest c x v
+                ∙ or_other (covers l y x) (covers r y x) (not_covered l h.4 y x (left_of (strip_of l) x k))
           ])
     ]
 
@@ -190,7 +206,8 @@ columns_hold t h y x =
     let rest = change (last_in t y) false (strip_of t).to in
     let b = close_begins (last_in t y) (strip_of t).to in
     elim (at_or_before x (strip_of t).from) [
-      | inl k ↦ value_at-before false (columns_in t y) x (begins_after x (strip_of t).from (columns_in t y) k (steps_begin t h y false rest b)) ∙ sym (not_covered t h y x (right_of (strip_of t) x k))
+      | inl k ↦ value_at-before false (columns_in t y) x (begins_after x (strip_of t).from (columns_in t y) k (steps_begin t h y false rest b))
+          ∙ sym (not_covered t h y x (right_of (strip_of t) x k))
       | inr k ↦ elim (at_or_before x (strip_of t).to) [
         | inl i ↦ steps_inside t h y false rest b x (within_if (strip_of t) x k i)
         | inr i ↦ steps_after t h y false rest x i ∙ close_after (last_in t y) (strip_of t).to x i ∙ sym (not_covered t h y x (left_of (strip_of t) x i))
@@ -204,18 +221,20 @@ columns_count t y =
 
 -- an empty row
 
-nothing_covered : (t : Cover) → IsShaped t → (y : ℤ) → filled_in t y ≡ 0 → (before : Bool) → (steps_in t y before ≡ change before false (strip_of t).from) × (last_in t y ≡ false)
-nothing_covered (Cell s) h y n before = elim (tested (int_lt y s.until)) [
+nothing_covered : (t : Cover) → IsShaped t → (y : ℤ) → filled_in t y ≡ 0 → (before : Bool) →
+    (steps_in t y before ≡ change before false (strip_of t).from) × (last_in t y ≡ false)
+nothing_covered (Cell s) h y n before = elim (cases_Bool (int_lt y s.until)) [
   | inl e ↦ absurd (let m : s.size ≡ 0 = rw e at n in omega (arith, m, h.1))
   | inr e ↦ (rw e refl, e)
 ]
-nothing_covered (Pair' s p l q r) h y n before = elim (tested (int_lt y s.until)) [
+nothing_covered (Pair' s p l q r) h y n before = elim (cases_Bool (int_lt y s.until)) [
   | inl e ↦ absurd (let m : s.size ≡ 0 = rw e at n in let k : 1 ≤ s.size = has_size (Pair' s p l q r) h in omega (arith, m, k))
   | inr e ↦
       let m : filled_in l y + filled_in r y ≡ 0 = rw e at n in
       let left = nothing_covered l h.4 y (omega (arith, m)) before in
       let right = nothing_covered r h.5 y (omega (arith, m)) (last_in l y) in (
-        rw e (ap (λ u. steps_in l y before ++ u) (right.0 ∙ ap (λ u. change u false (strip_of r).from) left.1) ∙ append-nil (steps_in l y before) ∙ left.0 ∙ ap (change before false) (sym h.0)),
+        rw e (ap (λ u. steps_in l y before ++ u) (right.0 ∙ ap (λ u. change u false (strip_of r).from) left.1) ∙ append-nil (steps_in l y before) ∙ left.0
+            ∙ ap (change before false) (sym h.0)),
         rw e right.1,
       )
 ]
@@ -225,12 +244,14 @@ no_steps t h y n before = (nothing_covered t h y n before).0
 
 -- what code pushes for a pair
 
-pub empty_steps : (z : ℤ) (t : Cover) (s : Strip) (p : _) (l : Cover) (q : _) (r : Cover) (before : Bool) → t ≡ Pair' s p l q r → IsCover z t → z ≤ℤ (strip_of t).steady → s.row.filled ≡ 0 → steps_in t z before ≡ change before false s.from
+pub empty_steps : (z : ℤ) (t : Cover) (s : Strip) (p : _) (l : Cover) (q : _) (r : Cover) (before : Bool) → t ≡ Pair' s p l q r → IsCover z t →
+    z ≤ℤ (strip_of t).steady → s.row.filled ≡ 0 → steps_in t z before ≡ change before false s.from
 empty_steps z t s p l q r before et c now n =
     let f : (strip_of t).row.filled ≡ filled_in t z = (told z t c.seen z (omega (arith, ints)) now).filled in
     no_steps t c.shaped z (sym f ∙ ap (λ u. (strip_of u).row.filled) et ∙ n) before ∙ ap (λ u. change before false (strip_of u).from) et
 
-pub pair_steps : (z : ℤ) (t : Cover) (s : Strip) (p : _) (l : Cover) (q : _) (r : Cover) (before last : Bool) (out more all : List (Step Bool)) → t ≡ Pair' s p l q r → IsCover z t → z ≤ℤ (strip_of t).steady → s.until ≤ℤ z →
+pub pair_steps : (z : ℤ) (t : Cover) (s : Strip) (p : _) (l : Cover) (q : _) (r : Cover) (before last : Bool) (out more all : List (Step Bool)) →
+    t ≡ Pair' s p l q r → IsCover z t → z ≤ℤ (strip_of t).steady → s.until ≤ℤ z →
     more ≡ out ++ steps_in l z before → last ≡ (strip_of l).row.last → all ≡ more ++ steps_in r z last → all ≡ out ++ steps_in t z before
 pair_steps z t s p l q r before last out more all et c now u em el ea =
     let d : IsCover z (Pair' s p l q r) = subst (IsCover z) et c in
@@ -239,7 +260,8 @@ pair_steps z t s p l q r before last out more all et c now u em el ea =
     let f : steps_in (Pair' s p l q r) z before ≡ steps_in l z before ++ steps_in r z (last_in l z) = rw (ge_is z s.until u) refl in
     ea ∙ rw (em, e) (append_assoc out (steps_in l z before) (steps_in r z (last_in l z))) ∙ ap (λ v. out ++ v) (sym f ∙ ap (λ v. steps_in v z before) (sym et))
 
-pub parts_current : (z : ℤ) (t : Cover) (s : Strip) (p : _) (l : Cover) (q : _) (r : Cover) → t ≡ Pair' s p l q r → IsCover z t → z ≤ℤ (strip_of t).steady → s.until ≤ℤ z → (IsCover z l × (z ≤ℤ (strip_of l).steady)) × (IsCover z r × (z ≤ℤ (strip_of r).steady))
+pub parts_current : (z : ℤ) (t : Cover) (s : Strip) (p : _) (l : Cover) (q : _) (r : Cover) → t ≡ Pair' s p l q r → IsCover z t → z ≤ℤ (strip_of t).steady →
+    s.until ≤ℤ z → (IsCover z l × (z ≤ℤ (strip_of l).steady)) × (IsCover z r × (z ≤ℤ (strip_of r).steady))
 parts_current z t s p l q r et c now u =
     let d : IsCover z (Pair' s p l q r) = subst (IsCover z) et c in
     let k = parts_last z s p l q r d.seen (subst (λ v. z ≤ℤ (strip_of v).steady) et now) u in

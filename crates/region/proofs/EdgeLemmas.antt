@@ -3,9 +3,9 @@ use Rattle.std.proofs.lemmas.Int.{ints}
 use Rattle.region.specs.declared.strip.Strip.{Strip}
 use Rattle.region.specs.declared.cover.Cover.{Cover}
 use Rattle.region.specs.declared.cover.Cover.TheVariants.{Cell, Pair'}
-use Rattle.region.specs.Row.{empty_row}
-use Rattle.region.specs.Cover.{strip_of, IsShaped, IsRowOf, Splits, SameShape}
-use Rattle.region.specs.Edges.{IsRisingFrom, right_edges, IsBuilt}
+use Rattle.region.specs.InnerRow.{empty_row}
+use Rattle.region.specs.InnerCover.{strip_of, IsShaped, IsRowOf, Splits, SameShape}
+use Rattle.region.specs.InnerEdges.{IsRisingFrom, right_edges, IsBuilt}
 use Rattle.region.proofs.StepLemmas.{ge_is}
 use Rattle.region.proofs.CoverLemmas.{has_width}
 use Rattle.region.proofs.CoverTurnLemmas.{told, empty_told, beside_told}
@@ -45,11 +45,22 @@ edges_split (Pair' s p l q r) h =
     let a : (strip_of l).from <ℤ (strip_of l).to = has_width l h.4 in
     let b : (strip_of r).from <ℤ (strip_of r).to = has_width r h.5 in
     all_append (IsEdgeOf (Pair' s p l q r)) (right_edges l) (right_edges r)
-    (all_weaker (IsEdgeOf l) (IsEdgeOf (Pair' s p l q r)) (λ e k. record { splits = (k.splits, splits_outside r h.5 e (inl (omega (arith, ints, k.to, h.1)))); from = omega (arith, ints, k.from, h.0); to = omega (arith, ints, k.to, h.1, h.2, b) }) (right_edges l) (edges_split l h.4))
-    (all_weaker (IsEdgeOf r) (IsEdgeOf (Pair' s p l q r)) (λ e k. record { splits = (splits_outside l h.4 e (inr (omega (arith, ints, k.from, h.1))), k.splits); from = omega (arith, ints, k.from, h.1, h.0, a); to = omega (arith, ints, k.to, h.2) }) (right_edges r) (edges_split r h.5))
+    (all_weaker (IsEdgeOf l) (IsEdgeOf (Pair' s p l q r))
+    (λ e k. record {
+      splits = (k.splits, splits_outside r h.5 e (inl (omega (arith, ints, k.to, h.1))));
+      from = omega (arith, ints, k.from, h.0);
+      to = omega (arith, ints, k.to, h.1, h.2, b);
+    }) (right_edges l) (edges_split l h.4))
+    (all_weaker (IsEdgeOf r) (IsEdgeOf (Pair' s p l q r))
+    (λ e k. record {
+      splits = (splits_outside l h.4 e (inr (omega (arith, ints, k.from, h.1))), k.splits);
+      from = omega (arith, ints, k.from, h.1, h.0, a);
+      to = omega (arith, ints, k.to, h.2);
+    }) (right_edges r) (edges_split r h.5))
 
 pub first_is_edge : (t : Cover) → IsShaped t → IsEdgeOf t (strip_of t).from
-first_is_edge t h = let a : (strip_of t).from <ℤ (strip_of t).to = has_width t h in record { splits = splits_outside t h (strip_of t).from (inl (omega (arith, ints))); from = omega (arith, ints); to = omega (arith, ints, a) }
+first_is_edge t h = let a : (strip_of t).from <ℤ (strip_of t).to = has_width t h in
+    record { splits = splits_outside t h (strip_of t).from (inl (omega (arith, ints))); from = omega (arith, ints); to = omega (arith, ints, a) }
 
 pub splits_same : (a b : Cover) (e : ℤ) → SameShape a b → Splits e a → Splits e b
 splits_same (Cell s) (Cell t) e h (inl k) = inl (omega (arith, ints, k, h.0))
@@ -66,7 +77,8 @@ new_strip from to size = record { from = from; to = to; size = size; until = neg
 not_before : (y : ℤ) → negsuc 2147483647 ≤ℤ y → int_lt y (negsuc 2147483647) ≡ false
 not_before y h = ge_is y (negsuc 2147483647) h
 
-pub cell_built : (from to : ℤ) (edges rest : List ℤ) → edges ≡ to ∷ rest → IsRisingFrom from edges → FitsSigned w32 from → FitsSigned w32 to → IsBuilt from edges 1 (Cell (new_strip from to 1)) rest
+pub cell_built : (from to : ℤ) (edges rest : List ℤ) → edges ≡ to ∷ rest → IsRisingFrom from edges → FitsSigned w32 from → FitsSigned w32 to →
+    IsBuilt from edges 1 (Cell (new_strip from to 1)) rest
 cell_built from to edges rest e h f g =
     let k = subst (IsRisingFrom from) e h in
     record {
@@ -83,7 +95,8 @@ cell_built from to edges rest e h f g =
       bare = λ y x h. rw (not_before y h) refl;
     }
 
-pub pair_built : (from : ℤ) (edges : List ℤ) (n m : ℕ) (p : _) (l : Cover) (q : _) (r : Cover) (middle rest : List ℤ) → IsBuilt from edges n l middle → IsBuilt (strip_of l).to middle m r rest →
+pub pair_built : (from : ℤ) (edges : List ℤ) (n m : ℕ) (p : _) (l : Cover) (q : _) (r : Cover) (middle rest : List ℤ) → IsBuilt from edges n l middle →
+    IsBuilt (strip_of l).to middle m r rest →
     IsBuilt from edges (n + m) (Pair' (new_strip (strip_of l).from (strip_of r).to ((strip_of l).size + (strip_of r).size)) p l q r) rest
 pair_built from edges n m p l q r middle rest a b =
     let s : Strip = new_strip (strip_of l).from (strip_of r).to ((strip_of l).size + (strip_of r).size) in
@@ -102,8 +115,10 @@ pair_built from edges n m p l q r middle rest a b =
         seen = (
           (λ y i j.
               let d : int_lt y s.until ≡ false = not_before y i in
-              beside_told (Pair' s p l q r) l r y empty_row empty_row (subst (IsRowOf l y) a.row (told (negsuc 2147483647) l a.cover.seen y i (omega (arith, ints, j, a.steady))))
-              (subst (IsRowOf r y) b.row (told (negsuc 2147483647) r b.cover.seen y i (omega (arith, ints, j, b.steady)))) (rw d refl) (rw d refl) (rw d refl) (rw d refl)),
+              beside_told (Pair' s p l q r) l r y empty_row empty_row
+              (subst (IsRowOf l y) a.row (told (negsuc 2147483647) l a.cover.seen y i (omega (arith, ints, j, a.steady))))
+              (subst (IsRowOf r y) b.row (told (negsuc 2147483647) r b.cover.seen y i (omega (arith, ints, j, b.steady)))) (rw d refl) (rw d refl) (rw d refl)
+              (rw d refl)),
           (λ y i j. inr (omega (arith, ints, j, a.steady), omega (arith, ints, j, b.steady))),
           a.cover.seen,
           b.cover.seen,
@@ -114,10 +129,14 @@ pair_built from edges n m p l q r middle rest a b =
     }
 
 -- the same with the names that code has
-pub pair_is_built : (from : ℤ) (edges : List ℤ) (count half : ℕ) (s : Strip) (p : _) (l m : Cover) (q : _) (r n : Cover) (middle rest : List ℤ) → half ≤ count → IsBuilt from edges half l middle → IsBuilt (strip_of l).to middle (count - half) r rest →
+pub pair_is_built : (from : ℤ) (edges : List ℤ) (count half : ℕ) (s : Strip) (p : _) (l m : Cover) (q : _) (r n : Cover) (middle rest : List ℤ) → half ≤ count →
+    IsBuilt from edges half l middle → IsBuilt (strip_of l).to middle (count - half) r rest →
     m ≡ l → n ≡ r → s ≡ new_strip (strip_of l).from (strip_of r).to ((strip_of l).size + (strip_of r).size) → IsBuilt from edges count (Pair' s p m q n) rest
 pair_is_built from edges count half s p l m q r n middle rest h a b em en es =
     let whole : half + (count - half) ≡ count = omega (arith, h) in
     subst (λ k. IsBuilt from edges k (Pair' s p m q n) rest) whole (subst (λ u. IsBuilt from edges (half + (count - half)) (Pair' u p m q n) rest) (sym es)
-    (subst (λ u. IsBuilt from edges (half + (count - half)) (Pair' (new_strip (strip_of l).from (strip_of r).to ((strip_of l).size + (strip_of r).size)) p u q n) rest) (sym em)
-    (subst (λ u. IsBuilt from edges (half + (count - half)) (Pair' (new_strip (strip_of l).from (strip_of r).to ((strip_of l).size + (strip_of r).size)) p l q u) rest) (sym en) (pair_built from edges half (count - half) p l q r middle rest a b))))
+    (subst (λ u. IsBuilt from edges (half + (count - half))
+    (Pair' (new_strip (strip_of l).from (strip_of r).to ((strip_of l).size + (strip_of r).size)) p u q n) rest) (sym em)
+    (subst (λ u. IsBuilt from edges (half + (count - half))
+    (Pair' (new_strip (strip_of l).from (strip_of r).to ((strip_of l).size + (strip_of r).size)) p l q u) rest) (sym en)
+    (pair_built from edges half (count - half) p l q r middle rest a b))))

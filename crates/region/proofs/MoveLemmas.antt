@@ -17,4 +17,5 @@ moved_is_in p by r = rw (moved_le r.left p.x by.x, moved_lt r.right p.x by.x, mo
 -- a point is in moved rectangles where it was in them before
 pub moved_is_in_some : (p by : Point) (rects : List Rect) → is_in_some p (map (λ r. moved_rect r by) rects) ≡ is_in_some (moved_back by p) rects
 moved_is_in_some p by [] = refl
-moved_is_in_some p by (r ∷ rects) = ap (λ u. u || is_in_some p (map (λ r. moved_rect r by) rects)) (moved_is_in p by r) ∙ ap (λ u. is_in (moved_back by p) r || u) (moved_is_in_some p by rects)
+moved_is_in_some p by (r ∷ rects) = ap (λ u. u || is_in_some p (map (λ r. moved_rect r by) rects)) (moved_is_in p by r)
+    ∙ ap (λ u. is_in (moved_back by p) r || u) (moved_is_in_some p by rects)

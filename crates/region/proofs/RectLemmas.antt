@@ -9,7 +9,8 @@ use Rattle.geom_base.specs.declared.point.Point.{Point}
 use Rattle.geom_base.specs.declared.rect.Rect.{Rect}
 use Rattle.geom_base.specs.Points.{is_in, is_in_some, AreApart}
 use Rattle.region.specs.declared.step.Step.{Step}
-use Rattle.region.specs.Steps.{value_at, final_value, IsOrdered, AllValid}
+use Rattle.region.specs.Steps.{value_at, final_value, AllValid}
+use Rattle.region.specs.InnerSteps.{IsOrdered}
 use Rattle.region.specs.Columns.{column, HasColumns}
 use Rattle.region.specs.Band.{row_rects, rects_of}
 use Rattle.region.proofs.StepLemmas.{reduced_is_ordered}
@@ -25,7 +26,8 @@ one_more : (x y left right top bottom : ℤ) (v rest : Bool) → left <ℤ right
 one_more x y left right top bottom v rest h = grind (arith, ints)
 
 none_more : (x y left right top bottom : ℤ) (rest : Bool) → left <ℤ right →
-    (in_rows top bottom y && (if int_lt x right then false else rest)) ≡ (in_rows top bottom y && (if int_lt x left then false else (if int_lt x right then false else rest)))
+    (in_rows top bottom y && (if int_lt x right then false else rest)) ≡
+    (in_rows top bottom y && (if int_lt x left then false else (if int_lt x right then false else rest)))
 none_more x y left right top bottom rest h = grind (arith, ints)
 
 none_left : (b c : Bool) → false ≡ (b && cond c false false)
@@ -37,7 +39,8 @@ row_step : (top bottom : ℤ) (s t : Step Bool) (steps : List (Step Bool)) (p : 
     is_in_some p (row_rects top bottom (t ∷ steps)) ≡ (in_rows top bottom p.y && value_at false (t ∷ steps) p.x) →
     is_in_some p (row_rects top bottom (s ∷ t ∷ steps)) ≡ (in_rows top bottom p.y && value_at false (s ∷ t ∷ steps) p.x)
 row_step top bottom s t steps p true e h r =
-    rw e (ap (λ u. is_in p (record { left = s.from; top = top; right = t.from; bottom = bottom }) || u) r ∙ one_more p.x p.y s.from t.from top bottom true (value_at t.value steps p.x) h)
+    rw e (ap (λ u. is_in p (record { left = s.from; top = top; right = t.from; bottom = bottom }) || u) r
+    ∙ one_more p.x p.y s.from t.from top bottom true (value_at t.value steps p.x) h)
 row_step top bottom s t steps p false e h r = rw e (r ∙ none_more p.x p.y s.from t.from top bottom (value_at t.value steps p.x) h)
 
 row_from : (top bottom : ℤ) (s : Step Bool) (steps : List (Step Bool)) (p : Point) → IsOrdered (s ∷ steps) → final_value s.value steps ≡ false →
@@ -46,7 +49,8 @@ row_from top bottom s [] p o e = rw e (none_left (in_rows top bottom p.y) (int_l
 row_from top bottom s (t ∷ steps) p o e = row_step top bottom s t steps p s.value refl o.0 (row_from top bottom t steps p o.1 e)
 
 -- the rectangles of a band have its columns in its rows
-pub row_points : (top bottom : ℤ) (steps : List (Step Bool)) (p : Point) → HasColumns steps → is_in_some p (row_rects top bottom steps) ≡ (in_rows top bottom p.y && value_at false steps p.x)
+pub row_points : (top bottom : ℤ) (steps : List (Step Bool)) (p : Point) → HasColumns steps →
+    is_in_some p (row_rects top bottom steps) ≡ (in_rows top bottom p.y && value_at false steps p.x)
 row_points top bottom [] p h = none_left (in_rows top bottom p.y) true
 row_points top bottom (s ∷ steps) p h = row_from top bottom s steps p (reduced_is_ordered column false (s ∷ steps) h.reduced) h.ends
 
@@ -62,7 +66,8 @@ none_after : (c : Bool) → false ≡ cond c false false
 none_after true = refl
 none_after false = refl
 
-bands_from : {V : Type 0} (columns : V → List (Step Bool)) (b : Step V) (bands : List (Step V)) (p : Point) → IsOrdered (b ∷ bands) → AllValid (λ v. HasColumns (columns v)) (b ∷ bands) →
+bands_from : {V : Type 0} (columns : V → List (Step Bool)) (b : Step V) (bands : List (Step V)) (p : Point) → IsOrdered (b ∷ bands) →
+    AllValid (λ v. HasColumns (columns v)) (b ∷ bands) →
     ((x : ℤ) → value_at false (columns (final_value b.value bands)) x ≡ false) →
     is_in_some p (rects_of columns (b ∷ bands)) ≡ (if int_lt p.y b.from then false else value_at false (columns (value_at b.value bands p.y)) p.x)
 bands_from columns b [] p o valid none = rw (none p.x) (none_after (int_lt p.y b.from))
@@ -74,8 +79,10 @@ bands_from columns b (c ∷ bands) p o valid none =
     ∙ ap (λ u. cond (int_lt p.y b.from) false u) (cond_inside (λ v. value_at false (columns v) p.x) (int_lt p.y c.from) b.value (value_at c.value bands p.y))
 
 -- a point is in one of the rectangles where it is in the set
-pub rects_points : {V : Type 0} (columns : V → List (Step Bool)) (e : V) (bands : List (Step V)) (p : Point) → columns e ≡ [] → IsOrdered bands → AllValid (λ v. HasColumns (columns v)) bands →
-    ((x : ℤ) → value_at false (columns (final_value e bands)) x ≡ false) → is_in_some p (rects_of columns bands) ≡ value_at false (columns (value_at e bands p.y)) p.x
+pub rects_points : {V : Type 0} (columns : V → List (Step Bool)) (e : V) (bands : List (Step V)) (p : Point) → columns e ≡ [] → IsOrdered bands →
+    AllValid (λ v. HasColumns (columns v)) bands →
+    ((x : ℤ) → value_at false (columns (final_value e bands)) x ≡ false) →
+    is_in_some p (rects_of columns bands) ≡ value_at false (columns (value_at e bands p.y)) p.x
 rects_points columns e [] p ee o valid none = rw ee refl
 rects_points columns e (b ∷ bands) p ee o valid none = bands_from columns b bands p o valid none
     ∙ (ap (λ u. cond (int_lt p.y b.from) u (value_at false (columns (value_at b.value bands p.y)) p.x)) (rw ee refl)
@@ -104,25 +111,34 @@ apart_second false b c h = h
 AllApart-append : (xs ys : List Rect) → AllApart xs → AllApart ys → ((p : Point) → (is_in_some p xs && is_in_some p ys) ≡ false) → AllApart (xs ++ ys)
 AllApart-append [] ys h k apart = k
 AllApart-append (x ∷ xs) ys h k apart = (
-  λ p. ap (λ u. is_in p x && u) (list_any-append (λ r. is_in p r) xs ys) ∙ apart_more (is_in p x) (is_in_some p xs) (is_in_some p ys) (h.0 p) (apart_first (is_in p x) (is_in_some p xs) (is_in_some p ys) (apart p)),
+  λ p. ap (λ u. is_in p x && u) (list_any-append (λ r. is_in p r) xs ys)
+      ∙ apart_more (is_in p x) (is_in_some p xs) (is_in_some p ys) (h.0 p) (apart_first (is_in p x) (is_in_some p xs) (is_in_some p ys) (apart p)),
   AllApart-append xs ys h.1 k (λ p. apart_second (is_in p x) (is_in_some p xs) (is_in_some p ys) (apart p)),
 )
 
-past_edge : (x y left right top bottom : ℤ) (c rest : Bool) → ((int_le left x && int_lt x right && int_le top y && int_lt y bottom) && (c && (if int_lt x right then false else rest))) ≡ false
+past_edge : (x y left right top bottom : ℤ) (c rest : Bool) →
+    ((int_le left x && int_lt x right && int_le top y && int_lt y bottom) && (c && (if int_lt x right then false else rest))) ≡ false
 past_edge x y left right top bottom c rest = grind (arith, ints)
 
 past_band : (y top bottom : ℤ) (here rest : Bool) → ((in_rows top bottom y && here) && (if int_lt y bottom then false else rest)) ≡ false
 past_band y top bottom here rest = grind (arith, ints)
 
-row_apart_step : (top bottom : ℤ) (s t : Step Bool) (steps : List (Step Bool)) (v : Bool) → s.value ≡ v → ((p : Point) → is_in_some p (row_rects top bottom (t ∷ steps)) ≡ (in_rows top bottom p.y && value_at false (t ∷ steps) p.x)) →
+row_apart_step : (top bottom : ℤ) (s t : Step Bool) (steps : List (Step Bool)) (v : Bool) → s.value ≡ v →
+    ((p : Point) → is_in_some p (row_rects top bottom (t ∷ steps)) ≡ (in_rows top bottom p.y && value_at false (t ∷ steps) p.x)) →
     AllApart (row_rects top bottom (t ∷ steps)) → AllApart (row_rects top bottom (s ∷ t ∷ steps))
 row_apart_step top bottom s t steps true e r a =
-    rw e (λ p. ap (λ u. is_in p (record { left = s.from; top = top; right = t.from; bottom = bottom }) && u) (r p) ∙ past_edge p.x p.y s.from t.from top bottom (in_rows top bottom p.y) (value_at t.value steps p.x), a)
+    rw e (
+      λ p. ap (λ u. is_in p (record { left = s.from; top = top; right = t.from; bottom = bottom }) && u) (r p)
+          ∙ past_edge p.x p.y s.from t.from top bottom (in_rows top bottom p.y) (value_at t.value steps p.x),
+      a,
+    )
 row_apart_step top bottom s t steps false e r a = rw e a
 
-row_apart : (top bottom : ℤ) (s : Step Bool) (steps : List (Step Bool)) → IsOrdered (s ∷ steps) → final_value s.value steps ≡ false → AllApart (row_rects top bottom (s ∷ steps))
+row_apart : (top bottom : ℤ) (s : Step Bool) (steps : List (Step Bool)) → IsOrdered (s ∷ steps) → final_value s.value steps ≡ false →
+    AllApart (row_rects top bottom (s ∷ steps))
 row_apart top bottom s [] o e = tt
-row_apart top bottom s (t ∷ steps) o e = row_apart_step top bottom s t steps s.value refl (λ p. row_from top bottom t steps p o.1 e) (row_apart top bottom t steps o.1 e)
+row_apart top bottom s (t ∷ steps) o e = row_apart_step top bottom s t steps s.value refl (λ p. row_from top bottom t steps p o.1 e)
+    (row_apart top bottom t steps o.1 e)
 
 row_is_apart : (top bottom : ℤ) (steps : List (Step Bool)) → HasColumns steps → AllApart (row_rects top bottom steps)
 row_is_apart top bottom [] h = tt
@@ -132,7 +148,8 @@ pub rects_apart : {V : Type 0} (columns : V → List (Step Bool)) (bands : List 
     ((e : V) (x : ℤ) → value_at false (columns (final_value e bands)) x ≡ false) → AllApart (rects_of columns bands)
 rects_apart columns [] o valid none = tt
 rects_apart columns (b ∷ []) o valid none = tt
-rects_apart columns (b ∷ c ∷ bands) o valid none = AllApart-append (row_rects b.from c.from (columns b.value)) (rects_of columns (c ∷ bands)) (row_is_apart b.from c.from (columns b.value) valid.0) (rects_apart columns (c ∷ bands) o.1 valid.1 (λ e. none b.value))
+rects_apart columns (b ∷ c ∷ bands) o valid none = AllApart-append (row_rects b.from c.from (columns b.value)) (rects_of columns (c ∷ bands))
+    (row_is_apart b.from c.from (columns b.value) valid.0) (rects_apart columns (c ∷ bands) o.1 valid.1 (λ e. none b.value))
     (λ p. ap (λ w. w && is_in_some p (rects_of columns (c ∷ bands))) (row_points b.from c.from (columns b.value) p valid.0)
     ∙ ap (λ w. (in_rows b.from c.from p.y && value_at false (columns b.value) p.x) && w) (bands_from columns c bands p o.1 valid.1 (none b.value))
     ∙ past_band p.y b.from c.from (value_at false (columns b.value) p.x) (value_at false (columns (value_at c.value bands p.y)) p.x))
@@ -149,7 +166,8 @@ shared_rest false b c h = refl
 
 none_shared : (r : Rect) (xs : List Rect) → ((p : Point) → (is_in p r && is_in_some p xs) ≡ false) → All (AreApart r) xs
 none_shared r [] h = All-nil (AreApart r)
-none_shared r (x ∷ xs) h = All-cons (AreApart r) x xs (λ p. shared_first (is_in p r) (is_in p x) (is_in_some p xs) (h p)) (none_shared r xs (λ p. shared_rest (is_in p r) (is_in p x) (is_in_some p xs) (h p)))
+none_shared r (x ∷ xs) h = All-cons (AreApart r) x xs (λ p. shared_first (is_in p r) (is_in p x) (is_in_some p xs) (h p))
+    (none_shared r xs (λ p. shared_rest (is_in p r) (is_in p x) (is_in_some p xs) (h p)))
 
 pub all_pairs_apart : (xs : List Rect) → AllApart xs → AllPairs AreApart xs
 all_pairs_apart [] h = λ i j d a b. absurd (omega arith)

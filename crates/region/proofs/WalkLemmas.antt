@@ -1,7 +1,8 @@
 use Rattle.std.proofs.Common.{◌≡◌, ◌∙◌, ℕ, ℤ, ◌+ℤ◌, ◌-ℤ◌, ◌<ℤ◌, ◌≤ℤ◌, pos, List, [], ◌∷◌, Bool, true, false, refl, ap, sym, subst, arith, inl, inr, zero, suc}
 use Rattle.std.proofs.lemmas.Int.{ints}
 use Rattle.region.specs.declared.step.Step.{Step}
-use Rattle.region.specs.Steps.{value_at, final_value, BeginsAfter, BeginsFrom, AllValid, Same, IsReduced}
+use Rattle.region.specs.Steps.{value_at, final_value, BeginsAfter, AllValid, Same, IsReduced}
+use Rattle.region.specs.InnerSteps.{BeginsFrom}
 use Rattle.region.specs.Window.{places_from}
 use Rattle.region.specs.Canonical.{steps_where}
 use Rattle.region.proofs.StepLemmas.{ge_is, at_or_before, value_at-before, BeginsAfter-earlier}
@@ -22,7 +23,8 @@ BeginsFrom-earlier : {V : Type 0} (y z : ℤ) (steps : List (Step V)) → y ≤�
 BeginsFrom-earlier y z [] h b = tt
 BeginsFrom-earlier y z (s ∷ steps) h b = omega (arith, ints, h, b)
 
-begins_here : {V : Type 0} (changes : ℤ → Bool) (value : ℤ → V) (z : ℤ) (n : ℕ) (b : Bool) → changes z ≡ b → BeginsFrom (z +ℤ pos 1) (walk changes value (z +ℤ pos 1) n) → BeginsFrom z (walk changes value z (suc n))
+begins_here : {V : Type 0} (changes : ℤ → Bool) (value : ℤ → V) (z : ℤ) (n : ℕ) (b : Bool) → changes z ≡ b →
+    BeginsFrom (z +ℤ pos 1) (walk changes value (z +ℤ pos 1) n) → BeginsFrom z (walk changes value z (suc n))
 begins_here changes value z n true e rest = rw e (omega (arith, ints))
 begins_here changes value z n false e rest = rw e (BeginsFrom-earlier z (z +ℤ pos 1) (walk changes value (z +ℤ pos 1) n) (omega (arith, ints)) rest)
 
@@ -34,24 +36,28 @@ walk_after : {V : Type 0} (changes : ℤ → Bool) (value : ℤ → V) (y z : �
 walk_after changes value y z n h = BeginsAfter-earlier y z (walk changes value z n) h (walk_begins changes value z n)
 
 -- the steps of a walk change each time
-reduced_here : {V : Type 0} (holds : V → ℤ → Bool) (changes : ℤ → Bool) (value : ℤ → V) → Changes holds changes value → (v : V) (z : ℤ) (n : ℕ) (b : Bool) → changes z ≡ b → v ≡ value (z -ℤ pos 1) →
+reduced_here : {V : Type 0} (holds : V → ℤ → Bool) (changes : ℤ → Bool) (value : ℤ → V) → Changes holds changes value → (v : V) (z : ℤ) (n : ℕ) (b : Bool) →
+    changes z ≡ b → v ≡ value (z -ℤ pos 1) →
     ((w : V) → w ≡ value z → IsReduced holds w (walk changes value (z +ℤ pos 1) n)) → IsReduced holds v (walk changes value z (suc n))
 reduced_here holds changes value c v z n true e before rest =
     let turn : ¬ Same holds (value z) v = subst (λ u. ¬ Same holds (value z) u) (sym before) (c.turns z e) in
     rw e (turn, walk_after changes value z (z +ℤ pos 1) n (omega (arith, ints)), rest (value z) refl)
 reduced_here holds changes value c v z n false e before rest = rw e (rest v (before ∙ sym (c.stays z e)))
 
-pub walk_reduced : {V : Type 0} (holds : V → ℤ → Bool) (changes : ℤ → Bool) (value : ℤ → V) → Changes holds changes value → (v : V) (z : ℤ) (n : ℕ) → v ≡ value (z -ℤ pos 1) → IsReduced holds v (walk changes value z n)
+pub walk_reduced : {V : Type 0} (holds : V → ℤ → Bool) (changes : ℤ → Bool) (value : ℤ → V) → Changes holds changes value → (v : V) (z : ℤ) (n : ℕ) →
+    v ≡ value (z -ℤ pos 1) → IsReduced holds v (walk changes value z n)
 walk_reduced holds changes value c v z zero before = tt
 walk_reduced holds changes value c v z (suc n) before = reduced_here holds changes value c v z n (changes z) refl before
     (λ w e. walk_reduced holds changes value c w (z +ℤ pos 1) n (e ∙ ap value (and_back z)))
 
 -- each value of a walk is one of the function's
-valid_here : {V : Type 0} (valid : V → Type 0) (changes : ℤ → Bool) (value : ℤ → V) (z : ℤ) (n : ℕ) (b : Bool) → changes z ≡ b → valid (value z) → AllValid valid (walk changes value (z +ℤ pos 1) n) → AllValid valid (walk changes value z (suc n))
+valid_here : {V : Type 0} (valid : V → Type 0) (changes : ℤ → Bool) (value : ℤ → V) (z : ℤ) (n : ℕ) (b : Bool) → changes z ≡ b → valid (value z) →
+    AllValid valid (walk changes value (z +ℤ pos 1) n) → AllValid valid (walk changes value z (suc n))
 valid_here valid changes value z n true e here rest = rw e (here, rest)
 valid_here valid changes value z n false e here rest = rw e rest
 
-pub walk_valid : {V : Type 0} (valid : V → Type 0) (changes : ℤ → Bool) (value : ℤ → V) → ((z : ℤ) → valid (value z)) → (z : ℤ) (n : ℕ) → AllValid valid (walk changes value z n)
+pub walk_valid : {V : Type 0} (valid : V → Type 0) (changes : ℤ → Bool) (value : ℤ → V) → ((z : ℤ) → valid (value z)) → (z : ℤ) (n : ℕ) →
+    AllValid valid (walk changes value z n)
 walk_valid valid changes value all z zero = tt
 walk_valid valid changes value all z (suc n) = valid_here valid changes value z n (changes z) refl (all z) (walk_valid valid changes value all (z +ℤ pos 1) n)
 
@@ -68,7 +74,8 @@ final_here : {V : Type 0} (changes : ℤ → Bool) (value : ℤ → V) (last v :
 final_here changes value last v z n true e same rest = rw e (rest (value z) refl)
 final_here changes value last v z n false e same rest = rw e (rest v (same e))
 
-pub walk_final : {V : Type 0} (holds : V → ℤ → Bool) (changes : ℤ → Bool) (value : ℤ → V) → Changes holds changes value → (last v : V) (z : ℤ) (n : ℕ) → v ≡ value (z -ℤ pos 1) → EndsAs value last z n → final_value v (walk changes value z n) ≡ last
+pub walk_final : {V : Type 0} (holds : V → ℤ → Bool) (changes : ℤ → Bool) (value : ℤ → V) → Changes holds changes value → (last v : V) (z : ℤ) (n : ℕ) →
+    v ≡ value (z -ℤ pos 1) → EndsAs value last z n → final_value v (walk changes value z n) ≡ last
 walk_final holds changes value c last v z zero before ends = before ∙ ends (z -ℤ pos 1) (omega (arith, ints))
 walk_final holds changes value c last v z (suc n) before ends = final_here changes value last v z n (changes z) refl (λ e. before ∙ sym (c.stays z e))
     (λ w e. walk_final holds changes value c last w (z +ℤ pos 1) n (e ∙ ap value (and_back z)) (ends_later value last z n ends))
@@ -77,12 +84,14 @@ walk_final holds changes value c last v z (suc n) before ends = final_here chang
 just_before : (y z : ℤ) → y <ℤ z → z ≤ℤ (y +ℤ pos 1) → z -ℤ pos 1 ≡ y
 just_before y z h k = omega (arith, ints)
 
-value_here : {V : Type 0} (changes : ℤ → Bool) (value : ℤ → V) (v : V) (y z : ℤ) (n : ℕ) (b : Bool) → changes z ≡ b → (changes z ≡ false → v ≡ value z) → z ≤ℤ y →
+value_here : {V : Type 0} (changes : ℤ → Bool) (value : ℤ → V) (v : V) (y z : ℤ) (n : ℕ) (b : Bool) → changes z ≡ b → (changes z ≡ false → v ≡ value z) →
+    z ≤ℤ y →
     ((w : V) → w ≡ value z → value_at w (walk changes value (z +ℤ pos 1) n) y ≡ value y) → value_at v (walk changes value z (suc n)) y ≡ value y
 value_here changes value v y z n true e same h rest = rw (e, ge_is y z h) (rest (value z) refl)
 value_here changes value v y z n false e same h rest = rw e (rest v (same e))
 
-walk_value : {V : Type 0} (holds : V → ℤ → Bool) (changes : ℤ → Bool) (value : ℤ → V) → Changes holds changes value → (last v : V) (y z : ℤ) (n : ℕ) → v ≡ value (z -ℤ pos 1) → EndsAs value last z n → z ≤ℤ (y +ℤ pos 1) →
+walk_value : {V : Type 0} (holds : V → ℤ → Bool) (changes : ℤ → Bool) (value : ℤ → V) → Changes holds changes value → (last v : V) (y z : ℤ) (n : ℕ) →
+    v ≡ value (z -ℤ pos 1) → EndsAs value last z n → z ≤ℤ (y +ℤ pos 1) →
     value_at v (walk changes value z n) y ≡ value y
 walk_value holds changes value c last v y z zero before ends h = before ∙ ends (z -ℤ pos 1) (omega (arith, ints)) ∙ sym (ends y (omega (arith, ints)))
 walk_value holds changes value c last v y z (suc n) before ends h = elim (at_or_before y z) [
@@ -92,7 +101,8 @@ walk_value holds changes value c last v y z (suc n) before ends h = elim (at_or_
 ]
 
 -- where the function has one value before the walk and from its last place on
-pub walk_values : {V : Type 0} (holds : V → ℤ → Bool) (changes : ℤ → Bool) (value : ℤ → V) → Changes holds changes value → (v : V) (z : ℤ) (n : ℕ) → ((y : ℤ) → y <ℤ z → value y ≡ v) → EndsAs value v z n → (y : ℤ) → value_at v (walk changes value z n) y ≡ value y
+pub walk_values : {V : Type 0} (holds : V → ℤ → Bool) (changes : ℤ → Bool) (value : ℤ → V) → Changes holds changes value → (v : V) (z : ℤ) (n : ℕ) →
+    ((y : ℤ) → y <ℤ z → value y ≡ v) → EndsAs value v z n → (y : ℤ) → value_at v (walk changes value z n) y ≡ value y
 walk_values holds changes value c v z n begins ends y = elim (at_or_before y z) [
   | inl below ↦ value_at-before v (walk changes value z n) y (walk_after changes value y z n below) ∙ sym (begins y below)
   | inr from ↦ walk_value holds changes value c v v y z n (sym (begins (z -ℤ pos 1) (omega (arith, ints)))) ends (omega (arith, ints))

@@ -1,11 +1,10 @@
 -- Bands: from a row on, a set of columns.
-use Rattle.std.specs.Prelude.{◌≡◌, ℤ, List, [], ◌∷◌, ◌++◌, Bool, if◌then◌else◌, Vec}
-use Rattle.std.specs.Global.{Global}
+use Rattle.std.specs.Prelude.{◌≡◌, ℤ, List, [], ◌∷◌, ◌++◌, Bool, if◌then◌else◌}
 use Rattle.geom_base.specs.declared.point.Point.{Point}
 use Rattle.geom_base.specs.declared.rect.Rect.{Rect}
 use Rattle.region.specs.declared.step.Step.{Step}
 use Rattle.region.specs.Steps.{value_at, final_value, AllValid, IsReduced}
-use Rattle.region.specs.Columns.{Columns, has_column, HasColumns, IsColumns}
+use Rattle.region.specs.Columns.{Columns, has_column, HasColumns}
 
 -- from a row on, the columns of the set
 abbrev pub Bands : Type 0
@@ -36,22 +35,3 @@ abbrev pub rects_of : {V : Type 0} → (V → List (Step Bool)) → List (Step V
 rects_of columns [] = []
 rects_of columns (b ∷ []) = []
 rects_of columns (b ∷ c ∷ bands) = row_rects b.from c.from (columns b.value) ++ rects_of columns (c ∷ bands)
-
--- the bands of code, given the columns of each
-abbrev pub lists_of : {V : Type 0} → (V → Columns) → List (Step V) → Bands
-lists_of columns [] = []
-lists_of columns (b ∷ bands) = record { from = b.from; value = columns b.value } ∷ lists_of columns bands
-
--- bands as code holds them
-abbrev pub HeldBands : Type 0
-HeldBands = List (Step (Vec (Step Bool) Global))
-
--- canonical bands as code holds them
-pub record IsBands {V : Type 0} (columns : V → Columns) (bands : List (Step V)) : Type 0 where
-  pub canonical : IsCanonical (lists_of columns bands)
-  pub values : AllValid (λ v. IsColumns (columns v)) bands
-
--- canonical bands of a set
-pub record AreBandsOf {V : Type 0} (columns : V → Columns) (set : Point → Bool) (bands : List (Step V)) : Type 0 where
-  pub held : IsBands columns bands
-  pub points : (p : Point) → has_point (lists_of columns bands) p ≡ set p

@@ -10,10 +10,11 @@ use Rattle.region.specs.Columns.{Columns}
 use Rattle.region.specs.Band.{Bands, rects_of}
 use Rattle.region.specs.Region.{IsRegionOf}
 use Rattle.region.specs.Refusal.{IsAnswer}
-use Rattle.region.specs.Window.{edges, LiesWithin, Within}
+use Rattle.region.specs.Window.{edges, IsWithinWindow, Within}
 
-abbrev pub point_at : ℤ → ℤ → Point
-point_at x y = record { x = x; y = y }
+-- the point of two coordinates
+abbrev pub point_from : ℤ → ℤ → Point
+point_from x y = record { x = x; y = y }
 
 -- exactly one of the two
 abbrev pub differ : Bool → Bool → Bool
@@ -25,11 +26,11 @@ steps_where changes value places = map (λ z. record { from = z; value = value z
 
 -- the columns of a row: a step wherever a point differs from the one before it
 abbrev pub columns_of_row : (Point → Bool) → ℤ → Columns
-columns_of_row set y = steps_where (λ x. differ (set (point_at (x -ℤ pos 1) y)) (set (point_at x y))) (λ x. set (point_at x y)) edges
+columns_of_row set y = steps_where (λ x. differ (set (point_from (x -ℤ pos 1) y)) (set (point_from x y))) (λ x. set (point_from x y)) edges
 
 -- some point of a row differs from the one above it
 abbrev pub row_changes : (Point → Bool) → ℤ → Bool
-row_changes set y = list_any (λ x. differ (set (point_at x (y -ℤ pos 1))) (set (point_at x y))) edges
+row_changes set y = list_any (λ x. differ (set (point_from x (y -ℤ pos 1))) (set (point_from x y))) edges
 
 -- the bands of a set: a step wherever a row differs from the one above it
 abbrev pub bands_of_set : (Point → Bool) → Bands
@@ -41,7 +42,7 @@ canonical_rects set = rects_of (λ columns. columns) (bands_of_set set)
 
 -- it is the list of the set
 abbrev pub CanonicalIsOfSet : Type 0
-CanonicalIsOfSet = (set : Point → Bool) → LiesWithin set → IsRegionOf set (canonical_rects set)
+CanonicalIsOfSet = (set : Point → Bool) → IsWithinWindow set → IsRegionOf set (canonical_rects set)
 
 -- this list, or the number of its rectangles where these are too many; or there was no memory
 abbrev pub Gives : List Rect → Result (List Rect) RegionRefusal → Type 0
@@ -51,4 +52,5 @@ Gives list (Err NoMemory) = Unit {0}
 
 -- each answer of an operation gives it
 abbrev pub AnswersAreCanonical : Type 0
-AnswersAreCanonical = (set : Point → Bool) (result : Result (List Rect) RegionRefusal) → LiesWithin set → IsAnswer set result → Gives (canonical_rects set) result
+AnswersAreCanonical = (set : Point → Bool) (result : Result (List Rect) RegionRefusal) → IsWithinWindow set → IsAnswer set result →
+    Gives (canonical_rects set) result

@@ -10,8 +10,8 @@ abbrev pub window : Rect
 window = record { left = negsuc 32767; top = negsuc 32767; right = pos 32767; bottom = pos 32767 }
 
 -- all points of a set lie there
-abbrev pub LiesWithin : (Point → Bool) → Type 0
-LiesWithin set = (p : Point) → set p ≡ true → IsIn p window
+abbrev pub IsWithinWindow : (Point → Bool) → Type 0
+IsWithinWindow set = (p : Point) → set p ≡ true → IsIn p window
 
 -- a coordinate is one of an edge
 pub record IsEdge (z : ℤ) : Type 0 where

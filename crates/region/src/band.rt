@@ -3,9 +3,10 @@
 ghost use Rattle.std.specs.Prelude.{◌≡◌, ◌∷◌, ◌++◌, [], true, false, OnOk, IfOk};
 ghost use Rattle.geom_base.specs.Points.{is_in};
 ghost use Rattle.region.specs.Operation.{holds_after};
-ghost use Rattle.region.specs.Steps.{AllFit};
-ghost use Rattle.region.specs.Columns.{columns_of};
-ghost use Rattle.region.specs.Band.{has_point, span_rects, row_rects, rects_of, HeldBands, AreBandsOf, IsBands, lists_of};
+ghost use Rattle.region.specs.InnerSteps.{AllFit};
+ghost use Rattle.region.specs.InnerColumns.{columns_of};
+ghost use Rattle.region.specs.Band.{has_point, span_rects, row_rects, rects_of};
+ghost use Rattle.region.specs.InnerBand.{HeldBands, AreBandsOf, IsBands, lists_of};
 
 use crate::operation::Operation;
 use crate::step::Step;
@@ -85,7 +86,8 @@ fn bands_of_columns(
     rect: &Rect,
     columns: Vec<Step<bool>>,
 ) -> Result<Vec<Band>, AllocError>
-    ensures { IfOk result (λ r. lists_of columns_of r.items ≡ record { from = rect.now.top; value = columns.items } ∷ record { from = rect.now.bottom; value = [] } ∷ []) }
+    ensures { IfOk result (λ r. lists_of columns_of r.items ≡
+        record { from = rect.now.top; value = columns.items } ∷ record { from = rect.now.bottom; value = [] } ∷ []) }
 {
     let mut bands = Vec::new(alloc);
     bands.push(Step {
@@ -124,7 +126,8 @@ pub fn combined_bands<O: Output<Vec<Step<bool>>>>(
     requires nothing_yet { O.has out [] }
     requires left { IsBands columns_of a.now }
     requires right { IsBands columns_of b.now }
-    ensures { IfOk result (λ r. (bands : HeldBands) × O.has r bands × AreBandsOf columns_of (λ p. holds_after operation (has_point (lists_of columns_of a.now) p) (has_point (lists_of columns_of b.now) p)) bands) }
+    ensures { IfOk result (λ r. (bands : HeldBands) × O.has r bands ×
+        AreBandsOf columns_of (λ p. holds_after operation (has_point (lists_of columns_of a.now) p) (has_point (lists_of columns_of b.now) p)) bands) }
 {
     let nothing = Vec::new(alloc);
     combined_steps(alloc, operation, &nothing, a, b, out)

@@ -1,10 +1,11 @@
 //! Bands from top to bottom, and the number of their rectangles.
 
 ghost use Rattle.std.specs.Prelude.{◌≡◌, ◌<◌, ◌+◌, ◌/◌, ◌^◌, ◌∷◌, ◌++◌, [], OnOk, nat_lt};
-ghost use Rattle.region.specs.Steps.{final_value, CanPush};
-ghost use Rattle.region.specs.Columns.{IsColumns, columns_of};
-ghost use Rattle.region.specs.Band.{HeldBands};
-ghost use Rattle.region.specs.BandList.{IsKept};
+ghost use Rattle.region.specs.Steps.{final_value};
+ghost use Rattle.region.specs.InnerSteps.{CanPush};
+ghost use Rattle.region.specs.InnerColumns.{IsColumns, columns_of};
+ghost use Rattle.region.specs.InnerBand.{HeldBands};
+ghost use Rattle.region.specs.InnerBandList.{IsKept};
 
 use crate::band::Band;
 use crate::step::Step;
@@ -74,7 +75,8 @@ impl Output<Vec<Step<bool>>> for BandList {
 
     fn push(&mut self, step: Band) -> Result<(), AllocError>
         requires { (bands : HeldBands) × IsKept columns_of bands self.old.bands.items self.old.count × CanPush (λ v. IsColumns v.items) bands step }
-        ensures { OnOk result ((bands : HeldBands) → IsKept columns_of bands self.old.bands.items self.old.count → CanPush (λ v. IsColumns v.items) bands step → IsKept columns_of (bands ++ step ∷ []) self.new.bands.items self.new.count) }
+        ensures { OnOk result ((bands : HeldBands) → IsKept columns_of bands self.old.bands.items self.old.count → CanPush (λ v. IsColumns v.items) bands step →
+            IsKept columns_of (bands ++ step ∷ []) self.new.bands.items self.new.count) }
     {
         self.count += step.value.len() as u64 / 2;
         if self.count > MOST_RECTANGLES {

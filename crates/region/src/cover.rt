@@ -1,8 +1,8 @@
 //! Which columns are covered, row after row.
 
 ghost use Rattle.std.specs.Prelude.{◌≡◌, ◌<◌, ◌≤◌, ◌++◌, ◌<ℤ◌, ◌≤ℤ◌, negsuc, length, IfOk, OnOk};
-ghost use Rattle.region.specs.Cover.{strip_of, steps_in, columns_in, change, Splits, IsCover, IsAdded, IsMoved};
-ghost use Rattle.region.specs.Edges.{IsRising, IsRisingFrom, IsBuilt, IsOver};
+ghost use Rattle.region.specs.InnerCover.{strip_of, steps_in, columns_in, change, Splits, IsCover, IsAdded, IsMoved};
+ghost use Rattle.region.specs.InnerEdges.{IsRising, IsRisingFrom, IsBuilt, IsOver};
 
 use crate::step::Step;
 use crate::strip::Strip;

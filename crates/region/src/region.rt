@@ -3,16 +3,16 @@
 ghost use Rattle.std.specs.Prelude.{◌≡◌, ◌≤◌, ◌↔◌, ◌||◌, ◌&&◌, not, length, map, IfOk, IsTrue, if◌then◌else◌};
 ghost use Rattle.std.specs.List.{All, AllPairs};
 ghost use Rattle.geom_base.specs.Points.{is_in, is_in_some, moved_rect, AreApart};
-ghost use Rattle.region.specs.BandList.{IsCounted, AreCanonical};
+ghost use Rattle.region.specs.InnerBandList.{IsCounted, AreCanonical};
 ghost use Rattle.region.specs.Moved.{CanMove, moved_back};
 ghost use Rattle.region.specs.Operation.{holds_after};
-ghost use Rattle.region.specs.Columns.{columns_of};
+ghost use Rattle.region.specs.InnerColumns.{columns_of};
 ghost use Rattle.region.specs.Band.{Bands, has_point};
 ghost use Rattle.region.specs.Region.{IsRegion, RegionIsUnique, IsRegionOf};
 ghost use Rattle.region.specs.Order.{IsInOrder, RegionIsInOrder};
 ghost use Rattle.region.specs.Refusal.{IsAnswer};
 ghost use Rattle.region.specs.Window.{Within};
-ghost use Rattle.region.specs.Canonical.{CanonicalIsOfSet, AnswersAreCanonical};
+ghost use Rattle.region.specs.Canonical.{canonical_rects, CanonicalIsOfSet, Gives, AnswersAreCanonical};
 
 use crate::band::{Band, bands_of_rect, combined_bands, rects_of_bands};
 use crate::band_list::BandList;
@@ -34,8 +34,8 @@ pub struct Region {
 impl Model for Region {
     ghost use Rattle.std.specs.Prelude.{List};
     ghost use Rattle.geom_base.specs.declared.rect.Rect.{Rect};
-    ghost use Rattle.region.specs.Columns.{columns_of};
-    ghost use Rattle.region.specs.Region.{IsListed};
+    ghost use Rattle.region.specs.InnerColumns.{columns_of};
+    ghost use Rattle.region.specs.InnerBand.{IsListed};
 
     ghost Value = { List Rect };
 
@@ -62,7 +62,8 @@ fn region_of_list(alloc: Global, list: BandList) -> Result<Region, RegionRefusal
 impl Region {
     /// The points of any of the rectangles.
     pub fn from_rects(alloc: Global, rects: &[Rect]) -> Result<Region, RegionRefusal>
-        ensures { IsAnswer (λ p. is_in_some p rects.now) result }
+        ensures answer { IsAnswer (λ p. is_in_some p rects.now) result }
+        ensures canonical { Within rects.now → Gives (canonical_rects (λ p. is_in_some p rects.now)) result }
     {
         let bands = scanned_bands(alloc, rects)?;
         region_of_list(alloc, bands)
@@ -86,7 +87,9 @@ impl Region {
         operation: Operation,
         other: &Region,
     ) -> Result<Region, RegionRefusal>
-        ensures { IsAnswer (λ p. holds_after operation (is_in_some p self.now) (is_in_some p other.now)) result }
+        ensures answer { IsAnswer (λ p. holds_after operation (is_in_some p self.now) (is_in_some p other.now)) result }
+        ensures canonical { Within self.now → Within other.now →
+            Gives (canonical_rects (λ p. holds_after operation (is_in_some p self.now) (is_in_some p other.now))) result }
     {
         let bands = combined_bands(
             alloc,
@@ -116,7 +119,9 @@ impl Region {
     /// The points moved.
     pub fn offset(&self, alloc: Global, by: Point) -> Result<Region, RegionRefusal>
         requires { All (CanMove by) self.now }
-        ensures { IsAnswer (λ p. is_in_some (moved_back by p) self.now) result }
+        ensures answer { IsAnswer (λ p. is_in_some (moved_back by p) self.now) result }
+        ensures canonical { Within (map (λ rect. moved_rect rect by) self.now) →
+            Gives (canonical_rects (λ p. is_in_some (moved_back by p) self.now)) result }
     {
         let rects = moved_rects(alloc, &self.rects, &by)?;
         Region::from_rects(alloc, &rects)
@@ -124,7 +129,8 @@ impl Region {
 
     /// The rectangles of the points in a rectangle, however many.
     pub fn clipped(&self, alloc: Global, bounds: &Rect) -> Result<Vec<Rect>, AllocError>
-        ensures { IfOk result (λ r. IsRegionOf (λ p. is_in_some p self.now && is_in p bounds.now) r.items) }
+        ensures region { IfOk result (λ r. IsRegionOf (λ p. is_in_some p self.now && is_in p bounds.now) r.items) }
+        ensures in_order { IfOk result (λ r. IsInOrder r.items) }
     {
         let frame = bands_of_rect(alloc, bounds)?;
         let bands = combined_bands(

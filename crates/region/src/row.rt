@@ -1,7 +1,7 @@
 //! What stands in a row of some columns.
 
 ghost use Rattle.std.specs.Prelude.{◌≡◌, ◌+◌, ◌^◌, ◌<◌};
-ghost use Rattle.region.specs.Row.{full_row, beside, IsSound};
+ghost use Rattle.region.specs.InnerRow.{full_row, beside, IsSound};
 
 /// What stands in a row of some columns.
 #[derive(Clone, Copy, Debug, PartialEq, Eq)]

@@ -2,14 +2,14 @@
 
 ghost use Rattle.std.specs.Prelude.{◌≡◌, ◌<◌, ◌+◌, ◌^◌, ◌≤◌, ◌≤ℤ◌, ◌↔◌, ◌∷◌, ◌++◌, [], pos, IfOk, OnOk, MatchOption, IsTrue};
 ghost use Rattle.std.specs.List.{All, filter};
-ghost use Rattle.geom_base.specs.Points.{is_in_some};
+ghost use Rattle.geom_base.specs.Points.{is_in_some, has_points};
 ghost use Rattle.geom_base.specs.declared.point.Point.{Point};
-ghost use Rattle.region.specs.Columns.{columns_of};
+ghost use Rattle.region.specs.InnerColumns.{columns_of};
 ghost use Rattle.region.specs.Band.{Bands, has_point};
-ghost use Rattle.region.specs.BandList.{AreCanonical, IsCounted};
-ghost use Rattle.region.specs.Cover.{strip_of, columns_in, IsCover};
-ghost use Rattle.region.specs.Edges.{IsRising};
-ghost use Rattle.region.specs.Scan.{HasBothEdges, IsSolid, IsArranged, AreReady, BeginBelow, HaveBegun, IsNextRow, has_points};
+ghost use Rattle.region.specs.InnerBandList.{AreCanonical, IsCounted};
+ghost use Rattle.region.specs.InnerCover.{strip_of, columns_in, IsCover};
+ghost use Rattle.region.specs.InnerEdges.{IsRising};
+ghost use Rattle.region.specs.InnerScan.{HasBothEdges, IsSolid, IsArranged, AreReady, BeginBelow, HaveBegun, IsNextRow};
 
 use crate::band_list::BandList;
 use crate::cover::Cover;
@@ -17,12 +17,12 @@ use crate::step::Step;
 use geom_base::Rect;
 use std::alloc::{AllocError, Global};
 
-/// Whether a rectangle has points.
-fn has_points(rect: &Rect) -> bool
-    ensures points { result ≡ has_points rect.now }
-    ensures solid { IsTrue result → IsSolid rect.now }
+/// Whether a rectangle has points, between coordinates that its edges can have.
+fn is_solid(rect: Rect) -> bool
+    ensures points { result ≡ has_points rect }
+    ensures solid { IsTrue result → IsSolid rect }
 {
-    rect.left < rect.right && rect.top < rect.bottom
+    rect.has_points()
 }
 
 /// Those of the rectangles that have points.
@@ -32,7 +32,7 @@ fn solid_rects(alloc: Global, rects: &[Rect]) -> Result<Vec<Rect>, AllocError>
 {
     let mut solid = Vec::new(alloc);
     for rect in rects {
-        if has_points(rect) {
+        if is_solid(*rect) {
             solid.push(*rect)?;
         }
     }
@@ -107,7 +107,8 @@ fn push_band(
     requires cover { IsCover row.now cover.now }
     requires steady { row.now ≤ℤ (strip_of cover.now).steady }
     requires room { bands.old.count + (strip_of cover.now).row.runs < 2 ^ 64 }
-    ensures { OnOk result ((lists : Bands) → IsCounted columns_of lists bands.old.bands.items bands.old.count → IsCounted columns_of (lists ++ record { from = row.now; value = columns_in cover.now row.now } ∷ []) bands.new.bands.items bands.new.count) }
+    ensures { OnOk result ((lists : Bands) → IsCounted columns_of lists bands.old.bands.items bands.old.count →
+        IsCounted columns_of (lists ++ record { from = row.now; value = columns_in cover.now row.now } ∷ []) bands.new.bands.items bands.new.count) }
 {
     let runs = cover.strip().row.runs;
     if bands.is_past(runs) {
@@ -133,7 +134,8 @@ fn are_equal(a: u64, b: u64, c: u64) -> bool
 
 /// The bands of the rectangles, counted.
 pub fn scanned_bands(alloc: Global, rects: &[Rect]) -> Result<BandList, AllocError>
-    ensures { IfOk result (λ r. (bands : Bands) × AreCanonical bands × ((p : Point) → has_point bands p ≡ is_in_some p rects.now) × IsCounted columns_of bands r.bands.items r.count) }
+    ensures { IfOk result (λ r. (bands : Bands) × AreCanonical bands ×
+        ((p : Point) → has_point bands p ≡ is_in_some p rects.now) × IsCounted columns_of bands r.bands.items r.count) }
 {
     let mut bands = BandList::new(alloc);
     let sorted = sorted_rects(alloc, rects)?;

@@ -2,8 +2,8 @@
 
 ghost use Rattle.std.specs.Prelude.{◌≡◌, ◌+◌, ◌^◌, ◌<◌, ◌≤ℤ◌, ◌<ℤ◌, ◌&&◌, int_lt, int_le, pos, negsuc};
 ghost use Rattle.std.specs.Int.{int_min};
-ghost use Rattle.region.specs.Row.{empty_row, beside, IsSound};
-ghost use Rattle.region.specs.Strip.{seen_at, covered_until};
+ghost use Rattle.region.specs.InnerRow.{empty_row, beside, IsSound};
+ghost use Rattle.region.specs.InnerStrip.{seen_at, covered_until};
 
 use crate::row::{EMPTY, Row};
 use geom_base::Rect;
@@ -41,7 +41,14 @@ impl Strip {
     /// Two strips side by side that nothing covers.
     pub fn pair(left: &Strip, right: &Strip) -> Strip
         requires { left.now.size + right.now.size < 2 ^ 64 }
-        ensures { result ≡ record { from = left.now.from; to = right.now.to; size = left.now.size + right.now.size; until = negsuc 2147483647; row = empty_row; steady = pos 2147483647 } }
+        ensures { result ≡ record {
+          from = left.now.from;
+          to = right.now.to;
+          size = left.now.size + right.now.size;
+          until = negsuc 2147483647;
+          row = empty_row;
+          steady = pos 2147483647;
+        } }
     {
         Strip {
             from: left.from,

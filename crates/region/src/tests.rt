@@ -222,3 +222,15 @@ fn stripes_across_stripes(rt: HostRuntime) -> Result<(), Fail> {
     );
     Ok(())
 }
+
+#[test]
+fn the_rectangles_of_bounds(rt: HostRuntime) -> Result<(), AllocError> {
+    let bounds = rect(1, 2, 5, 9);
+    let rects = rects_of_bounds(rt.alloc(), &bounds)?;
+    assert_eq!(rt; rects.as_slice(), [bounds].as_slice());
+    assert!(rt; fills_bounds(&rects, &bounds));
+    assert!(rt; !fills_bounds(&rects, &rect(1, 2, 5, 10)));
+    let none = rects_of_bounds(rt.alloc(), &rect(1, 2, 1, 9))?;
+    assert!(rt; none.is_empty());
+    Ok(())
+}

@@ -12,7 +12,8 @@ pub fn apply_masked(rop: Rop4, m: &[u32], p: &[u32], s: &[u32], d: &mut [u32], b
     requires mask { length m.now ≡ length d.old }
     requires pattern { length p.now ≡ length d.old }
     requires source { length s.now ≡ length d.old }
-    ensures { EachIndex d.new (λ k. slice_index d.new k ≡ rop4_of rop.code (slice_index m.now k == 1) (slice_index p.now k) (slice_index s.now k) (slice_index d.old k) bits) }
+    ensures { EachIndex d.new (λ k. slice_index d.new k ≡
+        rop4_of rop.code (slice_index m.now k == 1) (slice_index p.now k) (slice_index s.now k) (slice_index d.old k) bits) }
 {
     match rop.code {
         0xaacc => combine_masked::<0xaacc>(m, p, s, d, bits),
@@ -31,7 +32,8 @@ fn combine_masked<const CODE: u16>(m: &[u32], p: &[u32], s: &[u32], d: &mut [u32
     requires mask { length m.now ≡ length d.old }
     requires pattern { length p.now ≡ length d.old }
     requires source { length s.now ≡ length d.old }
-    ensures { EachIndex d.new (λ k. slice_index d.new k ≡ rop4_of CODE (slice_index m.now k == 1) (slice_index p.now k) (slice_index s.now k) (slice_index d.old k) bits) }
+    ensures { EachIndex d.new (λ k. slice_index d.new k ≡
+        rop4_of CODE (slice_index m.now k == 1) (slice_index p.now k) (slice_index s.now k) (slice_index d.old k) bits) }
 {
     combine_any(Rop4::of(CODE), m, p, s, d, bits);
 }
@@ -43,7 +45,8 @@ fn combine_any(rop: Rop4, m: &[u32], p: &[u32], s: &[u32], d: &mut [u32], bits: 
     requires mask { length m.now ≡ length d.old }
     requires pattern { length p.now ≡ length d.old }
     requires source { length s.now ≡ length d.old }
-    ensures { EachIndex d.new (λ k. slice_index d.new k ≡ rop4_of rop.code (slice_index m.now k == 1) (slice_index p.now k) (slice_index s.now k) (slice_index d.old k) bits) }
+    ensures { EachIndex d.new (λ k. slice_index d.new k ≡
+        rop4_of rop.code (slice_index m.now k == 1) (slice_index p.now k) (slice_index s.now k) (slice_index d.old k) bits) }
 {
     for i in 0..d.len() {
         d[i] = rop4_bits(rop, m[i] == 1, p[i], s[i], d[i], bits);

@@ -12,7 +12,7 @@ pub fn needs_source(rop: Rop4) -> bool
     ensures value { result ≡ source_needed rop.code }
     ensures spared { result ≡ false → (m : Bool) (p s t d bits : ℕ) → rop4_of rop.code m p s d bits ≡ rop4_of rop.code m p t d bits }
 {
-    byte_needs_source(rop.set_code()) || byte_needs_source(rop.clear_code())
+    byte_needs_source(rop.code_where_set()) || byte_needs_source(rop.code_where_clear())
 }
 
 /// Whether some result of one of the bytes changes with the pattern alone.
@@ -21,7 +21,7 @@ pub fn needs_pattern(rop: Rop4) -> bool
     ensures value { result ≡ pattern_needed rop.code }
     ensures spared { result ≡ false → (m : Bool) (p q s d bits : ℕ) → rop4_of rop.code m p s d bits ≡ rop4_of rop.code m q s d bits }
 {
-    byte_needs_pattern(rop.set_code()) || byte_needs_pattern(rop.clear_code())
+    byte_needs_pattern(rop.code_where_set()) || byte_needs_pattern(rop.code_where_clear())
 }
 
 /// Whether the bytes differ.
@@ -30,7 +30,7 @@ pub fn needs_mask(rop: Rop4) -> bool
     ensures value { result ≡ mask_needed rop.code }
     ensures spared { result ≡ false → (m n : Bool) (p s d bits : ℕ) → rop4_of rop.code m p s d bits ≡ rop4_of rop.code n p s d bits }
 {
-    rop.set_code() != rop.clear_code()
+    rop.code_where_set() != rop.code_where_clear()
 }
 
 /// Whether the results for source 0 and source 1 differ, two places apart in the code.

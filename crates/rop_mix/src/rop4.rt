@@ -22,7 +22,7 @@ impl Rop4 {
 
     /// The ternary code that acts where the mask is 1.
     #[inline]
-    pub fn set_code(self) -> u8
+    pub fn code_where_set(self) -> u8
         ensures { result ≡ self.code % 256 }
     {
         (self.code & 0xff) as u8
@@ -30,7 +30,7 @@ impl Rop4 {
 
     /// The ternary code that acts where the mask is 0.
     #[inline]
-    pub fn clear_code(self) -> u8
+    pub fn code_where_clear(self) -> u8
         ensures { result ≡ self.code / 256 }
     {
         (self.code >> 8) as u8
@@ -44,9 +44,9 @@ impl Rop4 {
 pub fn rop4_bits(rop: Rop4, m: bool, p: u32, s: u32, d: u32, bits: u32) -> u32
     requires { bits ≤ 32 }
     ensures value { result ≡ rop4_of rop.code m p s d bits }
-    ensures narrow { result < 2 ^ bits }
+    ensures fits { result < 2 ^ bits }
 {
-    let set = rop3(rop.set_code(), p, s, d, bits);
-    let clear = rop3(rop.clear_code(), p, s, d, bits);
+    let set = rop3(rop.code_where_set(), p, s, d, bits);
+    let clear = rop3(rop.code_where_clear(), p, s, d, bits);
     if m { set } else { clear }
 }

@@ -2,14 +2,14 @@
 
 ghost use Rattle.std.specs.Prelude.{◌≡◌, ◌≤◌, ◌<◌, ◌^◌, ◌-◌};
 ghost use Rattle.rop_mix.specs.Rop.{rop3_of};
-ghost use Rattle.rop_mix.specs.Choice.{chosen, spread_of};
+ghost use Rattle.rop_mix.specs.InnerChoice.{chosen, spread_of};
 
 /// What a ternary code gives of the low bits of a pattern, a source and an old value, at most 32; the other bits are 0.
 #[inline]
 pub fn rop3(code: u8, p: u32, s: u32, d: u32, bits: u32) -> u32
     requires { bits ≤ 32 }
     ensures value { result ≡ rop3_of code p s d bits }
-    ensures narrow { result < 2 ^ bits }
+    ensures fits { result < 2 ^ bits }
 {
     let with_pattern = choose(
         s,

@@ -1,4 +1,5 @@
 use super::*;
+use crate::lanes::apply_lanes;
 use std::alloc::{AllocError, Global};
 use std::simd::u32x8;
 
@@ -46,7 +47,10 @@ fn the_operands_alone(rt: HostRuntime) {
 #[test]
 fn the_low_byte_acts_under_the_mask(rt: HostRuntime) {
     let rop = Rop4::of(0xaacc);
-    assert_eq!(rt; (rop.set_code(), rop.clear_code()), (0xcc, 0xaa));
+    assert_eq!(rt;
+        (rop.code_where_set(), rop.code_where_clear()),
+        (0xcc, 0xaa)
+    );
     assert_eq!(rt; rop4_bits(rop, true, 0, 0x11, 0x22, 8), 0x11);
     assert_eq!(rt; rop4_bits(rop, false, 0, 0x11, 0x22, 8), 0x22);
 }

@@ -1,15 +1,20 @@
 //! The operations.
 
-use geom_base::Size;
+ghost use Rattle.std.specs.Prelude.{◌≡◌, false};
+ghost use Rattle.surf_obj.specs.Layout.{layout_from};
+
+use geom_base::{Point, Size};
 use pix_format::{ColourTable, Format, Rgb, XlateObj};
 use rop_mix::apply_row;
 use std::alloc::{AllocError, Global};
-use surf_obj::LentSurf;
+use surf_obj::{Layout, LentSurf, LentView};
 
 /// The pixels of a row.
 const WIDTH: usize = 1024;
 
 const ROW: Size = Size { w: 1024, h: 1 };
+
+const START: Point = Point { x: 0, y: 0 };
 
 const WHITE: Rgb = Rgb {
     r: 255,
@@ -57,15 +62,22 @@ fn combined(code: u8, count: u32) -> u32 {
     sum
 }
 
+/// The layout of a row of a format.
+fn row_layout(format: Format) -> Layout
+    ensures { result ≡ layout_from (record { w = 1024; h = 1 }) format 4096 false }
+{
+    Layout::new(ROW, format, 4096, false)
+}
+
 /// A row of a surface, read.
 fn read(format: Format, count: u32) -> u32 {
+    let layout = row_layout(format);
     let mut bits = [0x5au8; 4096];
     let mut values = [0u32; WIDTH];
     let mut sum = 0u32;
     for i in 0..count {
         bits[7] = (i & 0x7f) as u8;
-        let surface = LentSurf::on(&mut bits, ROW, format, 4096, false);
-        surface.read_run(0, 0, &mut values);
+        LentView::on(&bits, layout).read_row(START, &mut values);
         sum = sum.wrapping_mul(31).wrapping_add(values[9]);
     }
     sum
@@ -73,14 +85,15 @@ fn read(format: Format, count: u32) -> u32 {
 
 /// A row of a surface, read and written back.
 fn written(format: Format, count: u32) -> u32 {
+    let layout = row_layout(format);
     let mut bits = [0x5au8; 4096];
     let mut values = [0u32; WIDTH];
     let mut sum = 0u32;
     for i in 0..count {
         bits[7] = (i & 0x7f) as u8;
-        let mut surface = LentSurf::on(&mut bits, ROW, format, 4096, false);
-        surface.read_run(0, 0, &mut values);
-        surface.write_run(0, 0, &values);
+        let mut surface = LentSurf::on(&mut bits, layout);
+        surface.read_row(START, &mut values);
+        surface.write_row(START, &values);
         sum = sum.wrapping_mul(31).wrapping_add(values[9]);
     }
     sum
@@ -91,13 +104,13 @@ fn translated(alloc: Global, from: Format, to: Format, count: u32) -> Result<u32
     let from_table = ColourTable::standard(alloc, from)?;
     let to_table = ColourTable::standard(alloc, to)?;
     let xlate = XlateObj::build(alloc, from, &from_table, to, &to_table, WHITE)?;
+    let layout = row_layout(from);
     let mut bits = [0x5au8; 4096];
     let mut values = [0u32; WIDTH];
     let mut sum = 0u32;
     for i in 0..count {
         bits[7] = (i & 0x7f) as u8;
-        let surface = LentSurf::on(&mut bits, ROW, from, 4096, false);
-        surface.read_run(0, 0, &mut values);
+        LentView::on(&bits, layout).read_row(START, &mut values);
         xlate.xlate_row(&mut values);
         sum = sum.wrapping_mul(31).wrapping_add(values[9]);
     }

@@ -1,4 +1,4 @@
--- One word of a line, where names count: its value, or its first fault.
+-- One word of a line, where names count: its value, or its first refusal.
 use Rattle.std.specs.Prelude.{ℕ, List, drop, slice_index, codes, Option, Some, None, is_none, Result, Ok, Err, Bool, true, ◌==◌, ◌&&◌, ◌||◌, nat_le, not, if◌then◌else◌}
 use Rattle.std.specs.Char.{is_ascii_alphabetic}
 use Rattle.std.specs.Str.{bytes_eq}
@@ -12,12 +12,13 @@ use Rattle.pix_format.specs.Standard.{standard_colours}
 use Rattle.pix_format.specs.Value.{bits_of, digits_of}
 use Rattle.brush_obj.specs.declared.hatch.Hatch.{Hatch as HatchKind}
 use Rattle.brush_obj.specs.declared.hatch.Hatch.TheVariants.{Horizontal, Vertical, FDiagonal, BDiagonal, Cross, DiagCross}
-use Rattle.script_words.specs.declared.fault.Fault.{Fault}
-use Rattle.script_words.specs.declared.fault.Fault.TheVariants.{Spelling, UnknownName, NameInUse, BadName}
+use Rattle.script_words.specs.declared.refusal.Refusal.{Refusal}
+use Rattle.script_words.specs.declared.refusal.Refusal.TheVariants.{Spelling, UnknownName, NameInUse, BadName}
 use Rattle.script_words.specs.Asking.{◌>>=◌, ask}
 use Rattle.script_words.specs.Lines.{word_at}
-use Rattle.script_words.specs.Places.{colour_at}
-use Rattle.script_words.specs.Spelling.{hex_of, count_in, is_new_name}
+use Rattle.script_words.specs.Places.{colour_in}
+use Rattle.script_words.specs.Spelling.{hexadecimal_in, count_in, is_new_name}
+use Rattle.script_orders.specs.Limits.{most_pattern_side}
 use Rattle.script_orders.specs.declared.desk_command.Spot.{Spot}
 use Rattle.script_orders.specs.declared.desk_command.Spot.TheVariants as spots
 use Rattle.script_orders.specs.declared.desk_command.BrushUse.{BrushUse}
@@ -30,81 +31,81 @@ use Rattle.script_orders.specs.declared.orders.FaceOrder.TheVariants.{Solid, Hat
 use Rattle.script_names.specs.Names.{Name, NameMap, screen, no_clip, table, brush, bitmap, region}
 
 -- a name that is to be made: its spelling is asked first, and then whether it is free
-abbrev pub new_name : NameMap → List ℕ → Result (Unit {0}) Fault
+abbrev pub new_name : NameMap → List ℕ → Result (Unit {0}) Refusal
 new_name names word = do
   _ ← ask (is_new_name word) BadName
   ask (is_none (names word)) NameInUse
 
 -- what is drawn on, or read: the desk or a bitmap
-abbrev pub spot_of : Option Name → Result Spot Fault
+abbrev pub spot_of : Option Name → Result Spot Refusal
 spot_of (Some screen) = Ok spots.Desk
 spot_of (Some (bitmap b)) = Ok (spots.Bitmap b.number)
 spot_of _ = Err UnknownName
 
-abbrev pub spot_at : NameMap → List ℕ → Result Spot Fault
-spot_at names word = spot_of (names word)
+abbrev pub spot_in : NameMap → List ℕ → Result Spot Refusal
+spot_in names word = spot_of (names word)
 
-abbrev pub bitmap_of : Option Name → Result Bitmap Fault
+abbrev pub bitmap_of : Option Name → Result Bitmap Refusal
 bitmap_of (Some (bitmap b)) = Ok b
 bitmap_of _ = Err UnknownName
 
-abbrev pub bitmap_at : NameMap → List ℕ → Result Bitmap Fault
-bitmap_at names word = bitmap_of (names word)
+abbrev pub bitmap_in : NameMap → List ℕ → Result Bitmap Refusal
+bitmap_in names word = bitmap_of (names word)
 
-abbrev pub table_of : Option Name → Result (List Rgb) Fault
+abbrev pub table_of : Option Name → Result (List Rgb) Refusal
 table_of (Some (table colours)) = Ok colours
 table_of _ = Err UnknownName
 
 -- a known region
-abbrev pub region_of : Option Name → Result (List Rect) Fault
+abbrev pub region_of : Option Name → Result (List Rect) Refusal
 region_of (Some (region rects)) = Ok rects
 region_of _ = Err UnknownName
 
-abbrev pub region_at : NameMap → List ℕ → Result (List Rect) Fault
-region_at names word = region_of (names word)
+abbrev pub region_in : NameMap → List ℕ → Result (List Rect) Refusal
+region_in names word = region_of (names word)
 
 -- a clip: none, or a known region
-abbrev pub clip_of : Option Name → Result (Option (List Rect)) Fault
+abbrev pub clip_of : Option Name → Result (Option (List Rect)) Refusal
 clip_of (Some no_clip) = Ok None
 clip_of (Some (region rects)) = Ok (Some rects)
 clip_of _ = Err UnknownName
 
-abbrev pub clip_at : NameMap → List ℕ → Result (Option (List Rect)) Fault
-clip_at names word = clip_of (names word)
+abbrev pub clip_in : NameMap → List ℕ → Result (Option (List Rect)) Refusal
+clip_in names word = clip_of (names word)
 
 -- the word for what isn't given
 abbrev pub is_dash : List ℕ → Bool
 is_dash word = bytes_eq word (codes "-")
 
 -- a source that may be left out
-abbrev pub spot_or_none : NameMap → List ℕ → Result (Option Spot) Fault
+abbrev pub spot_or_none : NameMap → List ℕ → Result (Option Spot) Refusal
 spot_or_none names word = if is_dash word then Ok None else (do
-  spot ← spot_at names word
+  spot ← spot_in names word
   Ok (Some spot))
 
 -- a mask that may be left out
-abbrev pub bitmap_or_none : NameMap → List ℕ → Result (Option Bitmap) Fault
+abbrev pub bitmap_or_none : NameMap → List ℕ → Result (Option Bitmap) Refusal
 bitmap_or_none names word = if is_dash word then Ok None else (do
-  b ← bitmap_at names word
+  b ← bitmap_in names word
   Ok (Some b))
 
-abbrev pub brush_of : Option Name → Result BrushUse Fault
+abbrev pub brush_of : Option Name → Result BrushUse Refusal
 brush_of (Some (brush number)) = Ok (uses.Made number)
 brush_of _ = Err UnknownName
 
 -- a colour behind a #, which is a solid brush, or a brush's name
-abbrev pub brush_at : NameMap → List ℕ → Result BrushUse Fault
-brush_at names word = if slice_index word 0 == 35 then (do
-  colour ← colour_at (drop 1 word)
+abbrev pub brush_in : NameMap → List ℕ → Result BrushUse Refusal
+brush_in names word = if slice_index word 0 == 35 then (do
+  colour ← colour_in (drop 1 word)
   Ok (uses.Colour colour)) else brush_of (names word)
 
 -- a brush that may be left out
-abbrev pub brush_or_none : NameMap → List ℕ → Result BrushUse Fault
-brush_or_none names word = if is_dash word then Ok uses.Nothing else brush_at names word
+abbrev pub brush_or_none : NameMap → List ℕ → Result BrushUse Refusal
+brush_or_none names word = if is_dash word then Ok uses.Nothing else brush_in names word
 
 -- how a bitmap keeps its pixels
-abbrev pub format_at : List ℕ → Result Format Fault
-format_at word =
+abbrev pub format_in : List ℕ → Result Format Refusal
+format_in word =
     if bytes_eq word (codes "1") then Ok B1
     else if bytes_eq word (codes "4") then Ok B4
     else if bytes_eq word (codes "8") then Ok B8
@@ -115,15 +116,19 @@ format_at word =
     else Err Spelling
 
 -- the table that a sixth word names, or the format's own where there is none
-abbrev pub table_at : NameMap → List (List ℕ) → ℕ → Format → Result (List Rgb) Fault
-table_at names words count format = if count == 6 then table_of (names (word_at words 5)) else Ok (standard_colours format)
+abbrev pub table_in : NameMap → List (List ℕ) → ℕ → Format → Result (List Rgb) Refusal
+table_in names words count format = if count == 6 then table_of (names (word_at words 5)) else Ok (standard_colours format)
 
 -- a pixel value with as many digits as a dump prints; a value of one bit is 0 or 1
-abbrev pub value_at : Format → List ℕ → Result ℕ Fault
-value_at format word = do
-  value ← hex_of (digits_of format) word
+abbrev pub value_in : Format → List ℕ → Result ℕ Refusal
+value_in format word = do
+  value ← hexadecimal_in (digits_of format) word
   _ ← ask (not (bits_of format == 1) || nat_le value 1) Spelling
   Ok value
+
+-- a mix by its number
+abbrev pub mix_in : List ℕ → Result ℕ Refusal
+mix_in word = count_in 1 16 word
 
 -- the operation of a word
 abbrev pub operation_of : List ℕ → Option Operation
@@ -135,8 +140,8 @@ operation_of word =
     else None
 
 -- the kind of a hatch
-abbrev pub hatch_at : List ℕ → Result HatchKind Fault
-hatch_at word =
+abbrev pub hatch_in : List ℕ → Result HatchKind Refusal
+hatch_in word =
     if bytes_eq word (codes "horizontal") then Ok Horizontal
     else if bytes_eq word (codes "vertical") then Ok Vertical
     else if bytes_eq word (codes "fdiagonal") then Ok FDiagonal
@@ -150,45 +155,45 @@ abbrev pub FaceAsked : Type 0
 FaceAsked = FaceOrder × Bool
 
 -- solid C
-abbrev pub solid_at : List (List ℕ) → Result FaceAsked Fault
-solid_at words = do
-  colour ← colour_at (word_at words 3)
+abbrev pub solid_in : List (List ℕ) → Result FaceAsked Refusal
+solid_in words = do
+  colour ← colour_in (word_at words 3)
   Ok (Solid colour, true)
 
 -- hatch KIND FORE BACK
-abbrev pub hatched_at : List (List ℕ) → Result FaceAsked Fault
-hatched_at words = do
-  kind ← hatch_at (word_at words 3)
-  fore ← colour_at (word_at words 4)
-  back ← colour_at (word_at words 5)
+abbrev pub hatched_in : List (List ℕ) → Result FaceAsked Refusal
+hatched_in words = do
+  kind ← hatch_in (word_at words 3)
+  fore ← colour_in (word_at words 4)
+  back ← colour_in (word_at words 5)
   Ok (Hatch kind fore back, true)
 
 -- pattern BITMAP
-abbrev pub pattern_at : NameMap → List (List ℕ) → Result FaceAsked Fault
-pattern_at names words = do
-  b ← bitmap_at names (word_at words 3)
-  Ok (Pattern b.number, nat_le b.size.w 64 && nat_le b.size.h 64)
+abbrev pub pattern_in : NameMap → List (List ℕ) → Result FaceAsked Refusal
+pattern_in names words = do
+  b ← bitmap_in names (word_at words 3)
+  Ok (Pattern b.number, nat_le b.size.w most_pattern_side && nat_le b.size.h most_pattern_side)
 
 -- what a brush is made of, by the words from its third on
-abbrev pub face_at : NameMap → List (List ℕ) → Result FaceAsked Fault
-face_at names words =
-    if bytes_eq (word_at words 2) (codes "solid") then solid_at words
-    else if bytes_eq (word_at words 2) (codes "hatch") then hatched_at words
-    else if bytes_eq (word_at words 2) (codes "pattern") then pattern_at names words
+abbrev pub face_in : NameMap → List (List ℕ) → Result FaceAsked Refusal
+face_in names words =
+    if bytes_eq (word_at words 2) (codes "solid") then solid_in words
+    else if bytes_eq (word_at words 2) (codes "hatch") then hatched_in words
+    else if bytes_eq (word_at words 2) (codes "pattern") then pattern_in names words
     else Err Spelling
 
 -- a bitmap by its name
-abbrev pub named_bitmap : NameMap → List ℕ → Result Named Fault
+abbrev pub named_bitmap : NameMap → List ℕ → Result Named Refusal
 named_bitmap names word = do
-  b ← bitmap_at names word
+  b ← bitmap_in names word
   Ok (named.Bitmap b.number)
 
 -- the one screen by its number
-abbrev pub named_screen : List ℕ → Result Named Fault
+abbrev pub named_screen : List ℕ → Result Named Refusal
 named_screen word = do
   number ← count_in 0 0 word
   Ok (named.Screen number)
 
 -- a bitmap's name begins with a letter
-abbrev pub named_at : NameMap → List ℕ → Result Named Fault
-named_at names word = if is_ascii_alphabetic (slice_index word 0) then named_bitmap names word else named_screen word
+abbrev pub named_in : NameMap → List ℕ → Result Named Refusal
+named_in names word = if is_ascii_alphabetic (slice_index word 0) then named_bitmap names word else named_screen word

@@ -21,20 +21,20 @@ pub data Name : Type 0 where
   bitmap : Bitmap → Name
   region : List Rect → Name
 
-abbrev pub name_of : Entry → Name
-name_of entries.Screen = screen
-name_of entries.NoClip = no_clip
-name_of (entries.Table colours) = table colours
-name_of (entries.Brush number) = brush number
-name_of (entries.Bitmap b) = bitmap b
-name_of (entries.Region rects) = region rects
+abbrev pub name_of_entry : Entry → Name
+name_of_entry entries.Screen = screen
+name_of_entry entries.NoClip = no_clip
+name_of_entry (entries.Table colours) = table colours
+name_of_entry (entries.Brush number) = brush number
+name_of_entry (entries.Bitmap b) = bitmap b
+name_of_entry (entries.Region rects) = region rects
 
 -- what each word stands for, where it is a name in use
 abbrev pub NameMap : Type 0
 NameMap = List ℕ → Option Name
 
 abbrev pub names_of : Names → NameMap
-names_of names word = option_map name_of (get_by (λ k. slice_cmp nat_cmp word k.now) names.map)
+names_of names word = option_map name_of_entry (get_by (λ k. slice_cmp nat_cmp word k.now) names.map)
 
 -- one more name
 abbrev pub with_name : List ℕ → Name → NameMap → NameMap

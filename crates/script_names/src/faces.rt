@@ -2,24 +2,24 @@
 
 ghost use Rattle.std.specs.Prelude.{◌≡◌, map};
 ghost use Rattle.script_names.specs.Names.{names_of};
-ghost use Rattle.script_names.specs.Fields.{solid_at, hatched_at, pattern_at, face_at};
+ghost use Rattle.script_names.specs.Fields.{solid_in, hatched_in, pattern_in, face_in};
 
 use crate::fields::{bitmap, hatch};
 use crate::names::Names;
-use script_orders::FaceOrder;
-use script_words::{Fault, colour, word};
+use script_orders::{FaceOrder, MOST_PATTERN_SIDE};
+use script_words::{Refusal, colour, word};
 
 /// solid C
-fn solid(words: &[&[u8]]) -> Result<(FaceOrder, bool), Fault>
-    ensures { result ≡ solid_at (map (λ w. w.now) words.now) }
+fn solid(words: &[&[u8]]) -> Result<(FaceOrder, bool), Refusal>
+    ensures { result ≡ solid_in (map (λ w. w.now) words.now) }
 {
     let colour = colour(word(words, 3))?;
     Ok((FaceOrder::Solid(colour), true))
 }
 
 /// hatch KIND FORE BACK
-fn hatched(words: &[&[u8]]) -> Result<(FaceOrder, bool), Fault>
-    ensures { result ≡ hatched_at (map (λ w. w.now) words.now) }
+fn hatched(words: &[&[u8]]) -> Result<(FaceOrder, bool), Refusal>
+    ensures { result ≡ hatched_in (map (λ w. w.now) words.now) }
 {
     let kind = hatch(word(words, 3))?;
     let fore = colour(word(words, 4))?;
@@ -28,19 +28,20 @@ fn hatched(words: &[&[u8]]) -> Result<(FaceOrder, bool), Fault>
 }
 
 /// pattern BITMAP
-fn pattern(names: &Names<'_>, words: &[&[u8]]) -> Result<(FaceOrder, bool), Fault>
-    ensures { result ≡ pattern_at (names_of names.now) (map (λ w. w.now) words.now) }
+fn pattern(names: &Names<'_>, words: &[&[u8]]) -> Result<(FaceOrder, bool), Refusal>
+    ensures { result ≡ pattern_in (names_of names.now) (map (λ w. w.now) words.now) }
 {
     let bitmap = bitmap(names, word(words, 3))?;
     let face = FaceOrder::Pattern {
         bitmap: bitmap.number,
     };
-    Ok((face, bitmap.size.w <= 64 && bitmap.size.h <= 64))
+    let fits = bitmap.size.w <= MOST_PATTERN_SIDE && bitmap.size.h <= MOST_PATTERN_SIDE;
+    Ok((face, fits))
 }
 
 /// What a brush is made of, by the words from its third on, and whether it isn't too large.
-pub fn face(names: &Names<'_>, words: &[&[u8]]) -> Result<(FaceOrder, bool), Fault>
-    ensures { result ≡ face_at (names_of names.now) (map (λ w. w.now) words.now) }
+pub fn face(names: &Names<'_>, words: &[&[u8]]) -> Result<(FaceOrder, bool), Refusal>
+    ensures { result ≡ face_in (names_of names.now) (map (λ w. w.now) words.now) }
 {
     let form = word(words, 2);
     if form == b"solid".as_slice() {
@@ -50,6 +51,6 @@ pub fn face(names: &Names<'_>, words: &[&[u8]]) -> Result<(FaceOrder, bool), Fau
     } else if form == b"pattern".as_slice() {
         pattern(names, words)
     } else {
-        Err(Fault::Spelling)
+        Err(Refusal::Spelling)
     }
 }

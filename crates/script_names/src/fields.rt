@@ -3,10 +3,10 @@
 ghost use Rattle.std.specs.Prelude.{◌≡◌, ◌<◌, ◌≤◌, ◌^◌, ◌==◌, IfOk, IfErr, OnOk, Ok, Err, length, map};
 ghost use Rattle.std.specs.Str.{bytes_eq};
 ghost use Rattle.pix_format.specs.Value.{colours_of};
-ghost use Rattle.script_words.specs.Asking.{Gives};
-ghost use Rattle.script_words.specs.Spelling.{count_in};
+ghost use Rattle.script_words.specs.Asking.{ReadsAs};
+ghost use Rattle.script_words.specs.Bounds.{most_name_bytes};
 ghost use Rattle.script_names.specs.Names.{names_of};
-ghost use Rattle.script_names.specs.Fields.{new_name, spot_at, bitmap_at, region_at, clip_at, table_at, is_dash, spot_or_none, bitmap_or_none, brush_at, brush_or_none, format_at, value_at, hatch_at, named_at};
+ghost use Rattle.script_names.specs.Fields.{new_name, spot_in, bitmap_in, region_in, clip_in, table_in, is_dash, spot_or_none, bitmap_or_none, brush_in, brush_or_none, format_in, value_in, hatch_in, mix_in, named_in};
 
 use crate::entry::{Bitmap, Entry};
 use crate::names::Names;
@@ -14,63 +14,63 @@ use brush_obj::Hatch;
 use pix_format::{ColourTable, Format};
 use rop_mix::Mix;
 use script_orders::{BrushUse, Named, NamedRegion, Spot};
-use script_words::{Fault, ReadError, colour, count, hexadecimal, is_name, word};
+use script_words::{ReadError, Refusal, colour, count, hexadecimal, is_name, word};
 use std::alloc::Global;
 
 /// A name that is to be made: its spelling is asked first, and then whether it is free.
-pub fn new_name(names: &Names<'_>, word: &[u8]) -> Result<(), Fault>
+pub fn new_name(names: &Names<'_>, word: &[u8]) -> Result<(), Refusal>
     ensures value { result ≡ new_name (names_of names.now) word.now }
-    ensures short { OnOk result (length word.now ≤ 32) }
+    ensures short { OnOk result (length word.now ≤ most_name_bytes) }
 {
     if !is_name(word) {
-        return Err(Fault::BadName);
+        return Err(Refusal::BadName);
     }
     if names.get(word).is_some() {
-        return Err(Fault::NameInUse);
+        return Err(Refusal::NameInUse);
     }
     Ok(())
 }
 
 /// What is drawn on, or read: the desk or a bitmap.
-pub fn spot(names: &Names<'_>, word: &[u8]) -> Result<Spot, Fault>
-    ensures { result ≡ spot_at (names_of names.now) word.now }
+pub fn spot(names: &Names<'_>, word: &[u8]) -> Result<Spot, Refusal>
+    ensures { result ≡ spot_in (names_of names.now) word.now }
 {
     match names.get(word) {
         Some(Entry::Screen) => Ok(Spot::Desk),
         Some(Entry::Bitmap(bitmap)) => Ok(Spot::Bitmap(bitmap.number)),
-        _ => Err(Fault::UnknownName),
+        _ => Err(Refusal::UnknownName),
     }
 }
 
 /// A bitmap.
-pub fn bitmap(names: &Names<'_>, word: &[u8]) -> Result<Bitmap, Fault>
-    ensures { result ≡ bitmap_at (names_of names.now) word.now }
+pub fn bitmap(names: &Names<'_>, word: &[u8]) -> Result<Bitmap, Refusal>
+    ensures { result ≡ bitmap_in (names_of names.now) word.now }
 {
     match names.get(word) {
         Some(Entry::Bitmap(bitmap)) => Ok(*bitmap),
-        _ => Err(Fault::UnknownName),
+        _ => Err(Refusal::UnknownName),
     }
 }
 
 /// A region.
-pub fn region<'n>(names: &'n Names<'_>, word: &[u8]) -> Result<&'n NamedRegion, Fault>
-    ensures ok { IfOk result (λ r. region_at (names_of names.now) word.now ≡ Ok r.now) }
-    ensures err { IfErr result (λ e. region_at (names_of names.now) word.now ≡ Err e) }
+pub fn region<'n>(names: &'n Names<'_>, word: &[u8]) -> Result<&'n NamedRegion, Refusal>
+    ensures ok { IfOk result (λ r. region_in (names_of names.now) word.now ≡ Ok r.now) }
+    ensures err { IfErr result (λ e. region_in (names_of names.now) word.now ≡ Err e) }
 {
     match names.get(word) {
         Some(Entry::Region(region)) => Ok(region),
-        _ => Err(Fault::UnknownName),
+        _ => Err(Refusal::UnknownName),
     }
 }
 
 /// A clip: none, or a region.
 pub fn clip(names: &Names<'_>, word: &[u8]) -> Result<Option<NamedRegion>, ReadError>
-    ensures { Gives (λ c. c) result (clip_at (names_of names.now) word.now) }
+    ensures { ReadsAs (λ c. c) result (clip_in (names_of names.now) word.now) }
 {
     match names.get(word) {
         Some(Entry::NoClip) => Ok(None),
         Some(Entry::Region(region)) => Ok(Some(region.shared()?)),
-        _ => Err(ReadError::Fault(Fault::UnknownName)),
+        _ => Err(ReadError::Refused(Refusal::UnknownName)),
     }
 }
 
@@ -81,14 +81,14 @@ pub fn table(
     words: &[&[u8]],
     format: Format,
 ) -> Result<ColourTable, ReadError>
-    ensures { Gives (λ t. t) result (table_at (names_of names.now) (map (λ w. w.now) words.now) (length (map (λ w. w.now) words.now)) format) }
+    ensures { ReadsAs (λ t. t) result (table_in (names_of names.now) (map (λ w. w.now) words.now) (length (map (λ w. w.now) words.now)) format) }
 {
     if words.len() != 6 {
         return Ok(ColourTable::standard(alloc, format)?);
     }
     match names.get(word(words, 5)) {
         Some(Entry::Table(table)) => Ok(ColourTable::of(alloc, table.colours())?),
-        _ => Err(ReadError::Fault(Fault::UnknownName)),
+        _ => Err(ReadError::Refused(Refusal::UnknownName)),
     }
 }
 
@@ -100,7 +100,7 @@ fn is_dash(word: &[u8]) -> bool
 }
 
 /// A source that may be left out.
-pub fn spot_or_none(names: &Names<'_>, word: &[u8]) -> Result<Option<Spot>, Fault>
+pub fn spot_or_none(names: &Names<'_>, word: &[u8]) -> Result<Option<Spot>, Refusal>
     ensures { result ≡ spot_or_none (names_of names.now) word.now }
 {
     if is_dash(word) {
@@ -111,7 +111,7 @@ pub fn spot_or_none(names: &Names<'_>, word: &[u8]) -> Result<Option<Spot>, Faul
 }
 
 /// A mask that may be left out.
-pub fn bitmap_or_none(names: &Names<'_>, word: &[u8]) -> Result<Option<Bitmap>, Fault>
+pub fn bitmap_or_none(names: &Names<'_>, word: &[u8]) -> Result<Option<Bitmap>, Refusal>
     ensures { result ≡ bitmap_or_none (names_of names.now) word.now }
 {
     if is_dash(word) {
@@ -122,20 +122,20 @@ pub fn bitmap_or_none(names: &Names<'_>, word: &[u8]) -> Result<Option<Bitmap>, 
 }
 
 /// A colour behind a #, which is a solid brush, or a brush's name.
-pub fn brush(names: &Names<'_>, word: &[u8]) -> Result<BrushUse, Fault>
-    ensures { result ≡ brush_at (names_of names.now) word.now }
+pub fn brush(names: &Names<'_>, word: &[u8]) -> Result<BrushUse, Refusal>
+    ensures { result ≡ brush_in (names_of names.now) word.now }
 {
     if let [b'#', digits @ ..] = word {
         return Ok(BrushUse::Colour(colour(digits)?));
     }
     match names.get(word) {
         Some(Entry::Brush(number)) => Ok(BrushUse::Made(*number)),
-        _ => Err(Fault::UnknownName),
+        _ => Err(Refusal::UnknownName),
     }
 }
 
 /// A brush that may be left out.
-pub fn brush_or_none(names: &Names<'_>, word: &[u8]) -> Result<BrushUse, Fault>
+pub fn brush_or_none(names: &Names<'_>, word: &[u8]) -> Result<BrushUse, Refusal>
     ensures { result ≡ brush_or_none (names_of names.now) word.now }
 {
     if is_dash(word) {
@@ -145,8 +145,8 @@ pub fn brush_or_none(names: &Names<'_>, word: &[u8]) -> Result<BrushUse, Fault>
 }
 
 /// How a bitmap keeps its pixels.
-pub fn format(word: &[u8]) -> Result<Format, Fault>
-    ensures { result ≡ format_at word.now }
+pub fn format(word: &[u8]) -> Result<Format, Refusal>
+    ensures { result ≡ format_in word.now }
 {
     if word == b"1".as_slice() {
         Ok(Format::B1)
@@ -163,35 +163,35 @@ pub fn format(word: &[u8]) -> Result<Format, Fault>
     } else if word == b"32".as_slice() {
         Ok(Format::B32)
     } else {
-        Err(Fault::Spelling)
+        Err(Refusal::Spelling)
     }
 }
 
 /// A pixel value with as many digits as a dump prints. A value of one bit is 0 or 1.
-pub fn value(format: Format, word: &[u8]) -> Result<u32, Fault>
-    ensures { result ≡ value_at format word.now }
+pub fn value(format: Format, word: &[u8]) -> Result<u32, Refusal>
+    ensures { result ≡ value_in format word.now }
 {
     let value = hexadecimal(word, format.digits() as usize)?;
     if format.bits() == 1 && value > 1 {
-        return Err(Fault::Spelling);
+        return Err(Refusal::Spelling);
     }
     Ok(value as u32)
 }
 
 /// A mix by its number.
-pub fn mix(word: &[u8]) -> Result<Mix, Fault>
-    ensures { result ≡ count_in 1 16 word.now }
+pub fn mix(word: &[u8]) -> Result<Mix, Refusal>
+    ensures { result ≡ mix_in word.now }
 {
     let number = count(word, 1, 16)?;
     match Mix::of(number as u8) {
         Some(mix) => Ok(mix),
-        None => Err(Fault::Range),
+        None => Err(Refusal::Range),
     }
 }
 
 /// The kind of a hatch.
-pub fn hatch(word: &[u8]) -> Result<Hatch, Fault>
-    ensures { result ≡ hatch_at word.now }
+pub fn hatch(word: &[u8]) -> Result<Hatch, Refusal>
+    ensures { result ≡ hatch_in word.now }
 {
     if word == b"horizontal".as_slice() {
         Ok(Hatch::Horizontal)
@@ -206,13 +206,13 @@ pub fn hatch(word: &[u8]) -> Result<Hatch, Fault>
     } else if word == b"diagcross".as_slice() {
         Ok(Hatch::DiagCross)
     } else {
-        Err(Fault::Spelling)
+        Err(Refusal::Spelling)
     }
 }
 
 /// The one screen by its number, or a bitmap by its name, which begins with a letter.
-pub fn named(names: &Names<'_>, word: &[u8]) -> Result<Named, Fault>
-    ensures { result ≡ named_at (names_of names.now) word.now }
+pub fn named(names: &Names<'_>, word: &[u8]) -> Result<Named, Refusal>
+    ensures { result ≡ named_in (names_of names.now) word.now }
 {
     if word.first().is_some_and(|b| b.is_ascii_alphabetic()) {
         let bitmap = bitmap(names, word)?;

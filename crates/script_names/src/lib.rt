@@ -1,7 +1,7 @@
 //! What each name of a script stands for, and the words of a line where names count.
 //!
 //! `names_of` of `specs/Names.antt` gives what each word stands for where it is a name in use; `specs/` also says what one word
-//! gives (`Fields`) and what the words of a line's end give (`Tails`): a value, or the first fault.
+//! gives (`Fields`) and what the words of a line's end give (`Tails`): a value, or the first refusal.
 #![tactic(auto)]
 
 mod entry;

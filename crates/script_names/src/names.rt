@@ -2,7 +2,7 @@
 
 ghost use Rattle.std.specs.Prelude.{◌≡◌, OnOk, OnErr, Some, None};
 ghost use Rattle.std.specs.Option.{option_map};
-ghost use Rattle.script_names.specs.Names.{name_of, names_of, with_name, without_name};
+ghost use Rattle.script_names.specs.Names.{name_of_entry, names_of, with_name, without_name};
 
 use crate::entry::Entry;
 use std::alloc::{AllocError, Global};
@@ -26,14 +26,14 @@ impl<'a> Names<'a> {
 
     /// What a word stands for, where it is a name in use.
     pub fn get(&self, word: &[u8]) -> Option<&Entry>
-        ensures { option_map (λ x. name_of x.now) result ≡ names_of self.now word.now }
+        ensures { option_map (λ x. name_of_entry x.now) result ≡ names_of self.now word.now }
     {
         self.map.get(word)
     }
 
     /// A name in use from here on, in place of what it stood for.
     pub fn insert(&mut self, word: &'a [u8], what: Entry) -> Result<(), AllocError>
-        ensures ok { OnOk result (names_of self.new ≡ with_name word.now (name_of what) (names_of self.old)) }
+        ensures ok { OnOk result (names_of self.new ≡ with_name word.now (name_of_entry what) (names_of self.old)) }
         ensures err { OnErr result (names_of self.new ≡ names_of self.old) }
     {
         match self.map.insert(word, what) {
@@ -41,6 +41,7 @@ impl<'a> Names<'a> {
             Err(_) => Err(AllocError),
         }
     }
+
     /// A name that is free from here on.
     pub fn remove(&mut self, word: &[u8])
         ensures { names_of self.new ≡ without_name word.now (names_of self.old) }

@@ -1,9 +1,9 @@
 //! The words of a line's end, each read alike.
 
 ghost use Rattle.std.specs.Prelude.{◌≤◌, All, IfOk, drop, length, map};
-ghost use Rattle.script_words.specs.Asking.{Gives, each};
-ghost use Rattle.script_words.specs.Places.{AreCoordinates, colour_at};
-ghost use Rattle.script_names.specs.Fields.{value_at};
+ghost use Rattle.script_words.specs.Asking.{ReadsAs, each};
+ghost use Rattle.script_words.specs.Places.{AreCoordinates, colour_in};
+ghost use Rattle.script_names.specs.Fields.{value_in};
 ghost use Rattle.script_names.specs.Tails.{rects_from};
 
 use crate::fields::value;
@@ -15,7 +15,7 @@ use std::alloc::Global;
 /// A colour for each word from number `from` on.
 pub fn colours(alloc: Global, words: &[&[u8]], from: usize) -> Result<Vec<Rgb>, ReadError>
     requires { from ≤ length words.now }
-    ensures { Gives (λ v. v.items) result (each colour_at (drop from (map (λ w. w.now) words.now))) }
+    ensures { ReadsAs (λ v. v.items) result (each colour_in (drop from (map (λ w. w.now) words.now))) }
 {
     let mut found = Vec::new(alloc);
     for i in from..words.len() {
@@ -28,7 +28,7 @@ pub fn colours(alloc: Global, words: &[&[u8]], from: usize) -> Result<Vec<Rgb>, 
 /// A rectangle for each four words from number `from` on.
 pub fn rects(alloc: Global, words: &[&[u8]], from: usize) -> Result<Vec<Rect>, ReadError>
     requires { from ≤ length words.now }
-    ensures value { Gives (λ v. v.items) result (rects_from (drop from (map (λ w. w.now) words.now))) }
+    ensures value { ReadsAs (λ v. v.items) result (rects_from (drop from (map (λ w. w.now) words.now))) }
     ensures range { IfOk result (λ v. All AreCoordinates v.items) }
 {
     let mut found = Vec::new(alloc);
@@ -49,7 +49,7 @@ pub fn values(
     from: usize,
 ) -> Result<Vec<u32>, ReadError>
     requires { from ≤ length words.now }
-    ensures { Gives (λ v. v.items) result (each (value_at format) (drop from (map (λ w. w.now) words.now))) }
+    ensures { ReadsAs (λ v. v.items) result (each (value_in format) (drop from (map (λ w. w.now) words.now))) }
 {
     let mut found = Vec::new(alloc);
     for i in from..words.len() {

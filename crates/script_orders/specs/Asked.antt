@@ -10,6 +10,7 @@ use Rattle.brush_obj.specs.declared.draw_call.DrawCall.TheVariants.{Copy}
 use Rattle.script_orders.specs.declared.desk_command.DeskCommand.{DeskCommand}
 use Rattle.script_orders.specs.declared.desk_command.Feed.{Feed}
 use Rattle.script_orders.specs.declared.desk_command.Feed.TheVariants.{Row}
+use Rattle.script_orders.specs.Limits.{most_side, most_pixels}
 use Rattle.script_orders.specs.Rows.{row_rect, zero_point}
 use Rattle.script_orders.specs.declared.script_command.ScriptCommand.{ScriptCommand}
 use Rattle.script_orders.specs.declared.script_command.ScriptCommand.TheVariants.{Create, Delete, Brush, Draw, Dump, Sum, Nothing}
@@ -22,10 +23,10 @@ pub record Asked : Type 0 where
 -- the sizes that a bitmap may have
 pub record IsSurfaceSize (size : Size) : Type 0 where
   pub least_width : 1 ≤ size.w
-  pub most_width : size.w ≤ 4096
+  pub most_width : size.w ≤ most_side
   pub least_height : 1 ≤ size.h
-  pub most_height : size.h ≤ 4096
-  pub most_pixels : size.w * size.h ≤ 4194304
+  pub most_height : size.h ≤ most_side
+  pub few_pixels : size.w * size.h ≤ most_pixels
 
 -- a bitmap can be made: its size is one that it may have, and its table fits its format
 pub record CanCreate (o : CreateOrder) : Type 0 where

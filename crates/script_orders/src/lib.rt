@@ -1,10 +1,11 @@
 //! What a script asks for: its commands in order, and the names of the bitmaps that it makes.
 //!
-//! `Asked` of `specs/Asked.antt` is the whole as a list, and `CanDo` what each command of an accepted script keeps to. A row of
-//! pixel values is drawn on the rectangle that `row_rect` of `specs/Rows.antt` gives.
+//! `Asked` of `specs/Asked.antt` is the whole as a list, and `CanDo` what each command of an accepted script keeps to; a script's limits
+//! stand in `specs/Limits.antt`. A row of pixel values is drawn on the rectangle that `row_rect` of `specs/Rows.antt` gives.
 #![tactic(auto)]
 
 mod desk_command;
+mod limits;
 mod named;
 mod named_region;
 mod orders;
@@ -13,6 +14,10 @@ mod script_command;
 mod values;
 
 pub use desk_command::{BrushUse, DeskCommand, Feed, Spot};
+pub use limits::{
+    MOST_BITMAP_PIXELS, MOST_BITMAPS, MOST_BRUSHES, MOST_COMMANDS, MOST_NAMES, MOST_PATTERN_SIDE,
+    MOST_PIXELS, MOST_REGION_RECTS, MOST_SIDE, MOST_TABLES,
+};
 pub use named::Named;
 pub use named_region::NamedRegion;
 pub use orders::{BrushOrder, CreateOrder, FaceOrder};

@@ -23,13 +23,13 @@ feed_from spots.Desk = feeds.Desk
 feed_from (spots.Bitmap n) = feeds.Bitmap n
 
 -- a source that isn't needed isn't looked at
-abbrev pub feed_for : Bool → Option Spot → Feed
-feed_for true (Some spot) = feed_from spot
-feed_for needed source = feeds.Nothing
+abbrev pub needed_feed : Bool → Option Spot → Feed
+needed_feed true (Some spot) = feed_from spot
+needed_feed needed source = feeds.Nothing
 
 -- a mask that isn't needed isn't looked at
-abbrev pub mask_for : Bool → Option Bitmap → Option Bitmap
-mask_for needed mask = if needed then mask else None
+abbrev pub needed_mask : Bool → Option Bitmap → Option Bitmap
+needed_mask needed mask = if needed then mask else None
 
 abbrev pub is_brush : BrushUse → Bool
 is_brush uses.Nothing = false
@@ -41,8 +41,8 @@ has_operands code source mask brush =
     (not (source_needed code) || is_some source) && (not (mask_needed code) || is_some mask) && (not (pattern_needed code) || is_brush brush)
 
 -- a mask has one bit for each pixel
-abbrev pub is_mono : Option Bitmap → Bool
-is_mono mask = option_map_or (λ (b : Bitmap). bits_of b.format == 1) mask true
+abbrev pub is_mono_mask : Option Bitmap → Bool
+is_mono_mask mask = option_map_or (λ (b : Bitmap). bits_of b.format == 1) mask true
 
 abbrev pub is_bitmap : Spot → ℕ → Bool
 is_bitmap spots.Desk n = false

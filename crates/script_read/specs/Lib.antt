@@ -3,3 +3,4 @@ pub mod Drawing
 pub mod State
 pub mod Commands
 pub mod Reading
+pub mod InnerReading

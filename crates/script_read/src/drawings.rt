@@ -1,29 +1,45 @@
 //! The lines that draw. They change nothing of what is kept from line to line.
 
-ghost use Rattle.std.specs.Prelude.{◌≡◌, ◌≤◌, ◌≤ℤ◌, pos, IfOk, length, map};
+ghost use Rattle.std.specs.Prelude.{◌≡◌, ◌≤◌, ◌≤ℤ◌, IfOk, length, map};
+ghost use Rattle.script_words.specs.Bounds.{greatest_point};
 ghost use Rattle.script_orders.specs.Asked.{CanDo};
 ghost use Rattle.brush_obj.specs.declared.draw_call.DrawCall.TheVariants as calls;
 ghost use Rattle.script_orders.specs.Rows.{row_end, row_rect};
-ghost use Rattle.script_read.specs.Drawing.{copy_from};
-ghost use Rattle.script_read.specs.State.{Reads, state_of};
+ghost use Rattle.script_read.specs.Drawing.{blt_from, copy_from, paint_from};
+ghost use Rattle.script_read.specs.InnerReading.{ReadsLine, state_of};
 ghost use Rattle.script_read.specs.Commands.{read_blt, read_copy, read_paint, read_pixels};
 
 use crate::operands::{
-    feed_for, feed_from, has_operands, is_mono, is_other, mask_for, number_of_mask,
+    feed_from, has_operands, is_mono_mask, is_other, needed_feed, needed_mask, number_of_mask,
 };
 use crate::reader::Reader;
 use brush_obj::{BltCall, CopyCall, DrawCall, PaintCall};
 use geom_base::{Point, Rect, Target};
-use rop_mix::{Rop4, needs_mask, needs_source};
+use rop_mix::{Mix, Rop4, needs_mask, needs_source};
 use script_names::{bitmap, bitmap_or_none, brush, brush_or_none, mix, spot, spot_or_none, values};
 use script_orders::{BrushUse, DeskCommand, Feed, ScriptCommand, Spot, Values};
-use script_words::{Fault, ReadError, hexadecimal, point, rect, well_ordered, word};
+use script_words::{ReadError, Refusal, hexadecimal, point, rect, well_ordered, word};
 use std::alloc::Global;
+
+/// A raster operation on a rectangle, whose points for its corner are `src` and `mask`.
+fn blt_from(rect: Rect, src: Point, mask: Point, origin: Point, rop: Rop4) -> DrawCall
+    ensures { result ≡ calls.Blt (blt_from rect src mask origin rop.code) }
+{
+    DrawCall::Blt(BltCall {
+        target: Target::Screen,
+        rect,
+        held: None,
+        src,
+        mask,
+        origin,
+        rop,
+    })
+}
 
 /// blt TARGET R SRC SX SY MASK MX MY BRUSH ROP4
 #[tactic(auto, unfolding(crate::specs::Commands::read_blt))]
 pub fn blt(reader: &Reader<'_>, words: &[&[u8]]) -> Result<ScriptCommand, ReadError>
-    ensures value { Reads result (state_of reader.now) (read_blt (state_of reader.now) (map (λ w. w.now) words.now)) }
+    ensures value { ReadsLine result (state_of reader.now) (read_blt (state_of reader.now) (map (λ w. w.now) words.now)) }
     ensures can { IfOk result CanDo }
 {
     let target = spot(&reader.names, word(words, 1))?;
@@ -35,31 +51,23 @@ pub fn blt(reader: &Reader<'_>, words: &[&[u8]]) -> Result<ScriptCommand, ReadEr
     let with = brush_or_none(&reader.names, word(words, 12))?;
     let rop = Rop4::of(hexadecimal(word(words, 13), 4)? as u16);
     if !well_ordered(&rect) {
-        return Err(ReadError::Fault(Fault::NotOrdered));
+        return Err(ReadError::Refused(Refusal::NotOrdered));
     }
     if !has_operands(rop, source, mask, with) {
-        return Err(ReadError::Fault(Fault::OperandMissing));
+        return Err(ReadError::Refused(Refusal::OperandMissing));
     }
-    let bits = mask_for(needs_mask(rop), mask);
-    if !is_mono(bits) {
-        return Err(ReadError::Fault(Fault::MaskNotMono));
+    let bits = needed_mask(needs_mask(rop), mask);
+    if !is_mono_mask(bits) {
+        return Err(ReadError::Refused(Refusal::MaskNotMono));
     }
     if !is_other(target, bits) {
-        return Err(ReadError::Fault(Fault::MaskIsTarget));
+        return Err(ReadError::Refused(Refusal::MaskIsTarget));
     }
     let clip = reader.shared_clip()?;
     Ok(ScriptCommand::Draw(DeskCommand {
         target,
-        call: DrawCall::Blt(BltCall {
-            target: Target::Screen,
-            rect,
-            held: None,
-            src,
-            mask: at,
-            origin: reader.origin,
-            rop,
-        }),
-        source: feed_for(needs_source(rop), source),
+        call: blt_from(rect, src, at, reader.origin, rop),
+        source: needed_feed(needs_source(rop), source),
         mask: number_of_mask(bits),
         brush: with,
         clip,
@@ -82,7 +90,7 @@ fn copy_from(rect: Rect, src: Point) -> DrawCall
 /// copy TARGET R SRC SX SY
 #[tactic(auto, unfolding(crate::specs::Commands::read_copy))]
 pub fn copy(reader: &Reader<'_>, words: &[&[u8]]) -> Result<ScriptCommand, ReadError>
-    ensures value { Reads result (state_of reader.now) (read_copy (state_of reader.now) (map (λ w. w.now) words.now)) }
+    ensures value { ReadsLine result (state_of reader.now) (read_copy (state_of reader.now) (map (λ w. w.now) words.now)) }
     ensures can { IfOk result CanDo }
 {
     let target = spot(&reader.names, word(words, 1))?;
@@ -90,7 +98,7 @@ pub fn copy(reader: &Reader<'_>, words: &[&[u8]]) -> Result<ScriptCommand, ReadE
     let source = spot(&reader.names, word(words, 6))?;
     let src = point(words, 7)?;
     if !well_ordered(&rect) {
-        return Err(ReadError::Fault(Fault::NotOrdered));
+        return Err(ReadError::Refused(Refusal::NotOrdered));
     }
     let clip = reader.shared_clip()?;
     Ok(ScriptCommand::Draw(DeskCommand {
@@ -104,10 +112,22 @@ pub fn copy(reader: &Reader<'_>, words: &[&[u8]]) -> Result<ScriptCommand, ReadE
     }))
 }
 
+/// A rectangle painted with a brush that has this origin.
+fn paint_from(rect: Rect, origin: Point, mix: Mix) -> DrawCall
+    ensures { result ≡ calls.Paint (paint_from rect origin mix) }
+{
+    DrawCall::Paint(PaintCall {
+        target: Target::Screen,
+        rect,
+        origin,
+        mix,
+    })
+}
+
 /// paint TARGET R BRUSH MIX
 #[tactic(auto, unfolding(crate::specs::Commands::read_paint))]
 pub fn paint(reader: &Reader<'_>, words: &[&[u8]]) -> Result<ScriptCommand, ReadError>
-    ensures value { Reads result (state_of reader.now) (read_paint (state_of reader.now) (map (λ w. w.now) words.now)) }
+    ensures value { ReadsLine result (state_of reader.now) (read_paint (state_of reader.now) (map (λ w. w.now) words.now)) }
     ensures can { IfOk result CanDo }
 {
     let target = spot(&reader.names, word(words, 1))?;
@@ -115,17 +135,12 @@ pub fn paint(reader: &Reader<'_>, words: &[&[u8]]) -> Result<ScriptCommand, Read
     let with = brush(&reader.names, word(words, 6))?;
     let mix = mix(word(words, 7))?;
     if !well_ordered(&rect) {
-        return Err(ReadError::Fault(Fault::NotOrdered));
+        return Err(ReadError::Refused(Refusal::NotOrdered));
     }
     let clip = reader.shared_clip()?;
     Ok(ScriptCommand::Draw(DeskCommand {
         target,
-        call: DrawCall::Paint(PaintCall {
-            target: Target::Screen,
-            rect,
-            origin: reader.origin,
-            mix,
-        }),
+        call: paint_from(rect, reader.origin, mix),
         source: Feed::Nothing,
         mask: None,
         brush: with,
@@ -142,7 +157,7 @@ pub fn pixels(
     words: &[&[u8]],
 ) -> Result<ScriptCommand, ReadError>
     requires { 4 ≤ length words.now }
-    ensures value { Reads result (state_of reader.now) (read_pixels (state_of reader.now) (map (λ w. w.now) words.now)) }
+    ensures value { ReadsLine result (state_of reader.now) (read_pixels (state_of reader.now) (map (λ w. w.now) words.now)) }
     ensures can { IfOk result CanDo }
 {
     let bitmap = bitmap(&reader.names, word(words, 1))?;
@@ -173,7 +188,7 @@ fn row_end(x: i32, count: usize) -> i32
 
 /// So many points in a row from a point on.
 fn row_rect(at: Point, count: usize) -> Rect
-    requires { at.y ≤ℤ pos 32766 }
+    requires { at.y ≤ℤ greatest_point }
     ensures { result ≡ row_rect at count }
 {
     Rect {

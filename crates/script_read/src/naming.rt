@@ -3,12 +3,14 @@
 ghost use Rattle.std.specs.Prelude.{◌≡◌, ◌<◌, ◌≤◌, ◌+◌, IfOk, IsTrue, OnOk, length, map};
 ghost use Rattle.script_words.specs.Lines.{word_at};
 ghost use Rattle.pix_format.specs.Value.{colours_of};
-ghost use Rattle.surf_obj.specs.Layout.{HasSides};
-ghost use Rattle.script_words.specs.Asking.{Gives};
+ghost use Rattle.geom_base.specs.Points.{HasSides};
+ghost use Rattle.script_words.specs.Asking.{ReadsAs};
+ghost use Rattle.script_words.specs.Bounds.{most_name_bytes};
+ghost use Rattle.script_orders.specs.Limits.{most_commands};
 ghost use Rattle.script_orders.specs.Asked.{CanDo, IsSurfaceSize};
 ghost use Rattle.script_names.specs.Names.{names_of};
-ghost use Rattle.script_read.specs.State.{Reads, state_of};
-ghost use Rattle.script_read.specs.Commands.{has_room, has_room_for, create_at, keep_bitmap, read_bitmap, read_brush, read_delete, read_table};
+ghost use Rattle.script_read.specs.InnerReading.{ReadsLine, state_of};
+ghost use Rattle.script_read.specs.Commands.{has_room, has_room_for, create_in, keep_bitmap, read_bitmap, read_brush, read_delete, read_table};
 
 use crate::reader::Reader;
 use geom_base::Size;
@@ -17,15 +19,18 @@ use script_names::{
     Bitmap, Entry, Names, bitmap as known_bitmap, colours, face, format, new_name,
     table as table_of,
 };
-use script_orders::{BrushOrder, CreateOrder, ScriptCommand};
-use script_words::{Fault, ReadError, count, word};
+use script_orders::{
+    BrushOrder, CreateOrder, MOST_BITMAP_PIXELS, MOST_BITMAPS, MOST_BRUSHES, MOST_NAMES,
+    MOST_PIXELS, MOST_SIDE, MOST_TABLES, ScriptCommand,
+};
+use script_words::{ReadError, Refusal, count, word};
 use std::alloc::Global;
 
 /// One more name fits.
 pub fn has_room(reader: &Reader<'_>) -> bool
     ensures { result ≡ has_room (state_of reader.now) }
 {
-    reader.live < 10000
+    reader.live < MOST_NAMES
 }
 
 /// table NAME C ..
@@ -36,15 +41,15 @@ pub fn table<'a>(
     words: &[&'a [u8]],
 ) -> Result<ScriptCommand, ReadError>
     requires { 2 ≤ length words.now }
-    ensures value { Reads result (state_of reader.new) (read_table (state_of reader.old) (map (λ w. w.now) words.now)) }
+    ensures value { ReadsLine result (state_of reader.new) (read_table (state_of reader.old) (map (λ w. w.now) words.now)) }
     ensures can { IfOk result CanDo }
     ensures made { IfOk result (λ _. length reader.new.made.items ≤ length reader.old.made.items + 1) }
 {
     let name = word(words, 1);
     new_name(&reader.names, name)?;
     let colours = colours(alloc, words, 2)?;
-    if !(has_room(reader) && reader.tables < 256) {
-        return Err(ReadError::Fault(Fault::PastLimit));
+    if !(has_room(reader) && reader.tables < MOST_TABLES) {
+        return Err(ReadError::Refused(Refusal::PastLimit));
     }
     let table = ColourTable::of(alloc, &colours)?;
     reader.names.insert(name, Entry::Table(table))?;
@@ -56,15 +61,15 @@ pub fn table<'a>(
 /// brush NAME FORM ..
 #[tactic(auto, unfolding(crate::specs::Commands::read_brush))]
 pub fn brush<'a>(reader: &mut Reader<'a>, words: &[&'a [u8]]) -> Result<ScriptCommand, ReadError>
-    ensures value { Reads result (state_of reader.new) (read_brush (state_of reader.old) (map (λ w. w.now) words.now)) }
+    ensures value { ReadsLine result (state_of reader.new) (read_brush (state_of reader.old) (map (λ w. w.now) words.now)) }
     ensures can { IfOk result CanDo }
     ensures made { IfOk result (λ _. length reader.new.made.items ≤ length reader.old.made.items + 1) }
 {
     let name = word(words, 1);
     new_name(&reader.names, name)?;
     let (face, fits) = face(&reader.names, words)?;
-    if !(fits && has_room(reader) && reader.brushes < 1024) {
-        return Err(ReadError::Fault(Fault::PastLimit));
+    if !(fits && has_room(reader) && reader.brushes < MOST_BRUSHES) {
+        return Err(ReadError::Refused(Refusal::PastLimit));
     }
     let number = reader.brushes;
     reader.names.insert(name, Entry::Brush(number))?;
@@ -78,25 +83,25 @@ pub fn brush<'a>(reader: &mut Reader<'a>, words: &[&'a [u8]]) -> Result<ScriptCo
 }
 
 /// NAME W H FORMAT [TABLE] of a bitmap line.
-#[tactic(auto, unfolding(crate::specs::Commands::create_at))]
+#[tactic(auto, unfolding(crate::specs::Commands::create_in))]
 fn create(
     names: &Names<'_>,
     alloc: Global,
     number: u32,
     words: &[&[u8]],
 ) -> Result<CreateOrder, ReadError>
-    ensures value { Gives (λ o. o) result (create_at (names_of names.now) number (map (λ w. w.now) words.now)) }
-    ensures name { OnOk result (length (word_at (map (λ w. w.now) words.now) 1) ≤ 32) }
+    ensures value { ReadsAs (λ o. o) result (create_in (names_of names.now) number (map (λ w. w.now) words.now)) }
+    ensures name { OnOk result (length (word_at (map (λ w. w.now) words.now) 1) ≤ most_name_bytes) }
     ensures sides { IfOk result (λ o. HasSides o.size) }
     ensures table { IfOk result (λ o. length o.table ≡ colours_of o.format) }
 {
     new_name(names, word(words, 1))?;
-    let w = count(word(words, 2), 1, 4096)?;
-    let h = count(word(words, 3), 1, 4096)?;
+    let w = count(word(words, 2), 1, MOST_SIDE)?;
+    let h = count(word(words, 3), 1, MOST_SIDE)?;
     let format = format(word(words, 4))?;
     let table = table_of(alloc, names, words, format)?;
     if table.colours().len() != format.colours() {
-        return Err(ReadError::Fault(Fault::TableMisfit));
+        return Err(ReadError::Refused(Refusal::TableMisfit));
     }
     Ok(CreateOrder {
         number,
@@ -113,9 +118,9 @@ fn has_room_for(reader: &Reader<'_>, size: Size) -> bool
 {
     let pixels = u64::from(size.w) * u64::from(size.h);
     has_room(reader)
-        && reader.bitmaps < 4096
-        && pixels <= 4194304
-        && u64::from(reader.pixels) + pixels <= 16777216
+        && reader.bitmaps < MOST_BITMAPS
+        && pixels <= MOST_PIXELS
+        && u64::from(reader.pixels) + pixels <= MOST_BITMAP_PIXELS
 }
 
 /// One more bitmap under a name, where it fits.
@@ -125,15 +130,15 @@ fn keep_bitmap<'a>(
     name: &'a [u8],
     order: CreateOrder,
 ) -> Result<ScriptCommand, ReadError>
-    requires name { length name.now ≤ 32 }
+    requires name { length name.now ≤ most_name_bytes }
     requires sides { HasSides order.size }
     requires table { length order.table ≡ colours_of order.format }
-    ensures value { Reads result (state_of reader.new) (keep_bitmap (state_of reader.old) name.now order) }
+    ensures value { ReadsLine result (state_of reader.new) (keep_bitmap (state_of reader.old) name.now order) }
     ensures can { IfOk result CanDo }
     ensures made { IfOk result (λ _. length reader.new.made.items ≤ length reader.old.made.items + 1) }
 {
     if !has_room_for(reader, order.size) {
-        return Err(ReadError::Fault(Fault::PastLimit));
+        return Err(ReadError::Refused(Refusal::PastLimit));
     }
     let kept = Bitmap {
         number: order.number,
@@ -155,8 +160,8 @@ pub fn bitmap<'a>(
     alloc: Global,
     words: &[&'a [u8]],
 ) -> Result<ScriptCommand, ReadError>
-    requires { length reader.old.made.items < 100000 }
-    ensures value { Reads result (state_of reader.new) (read_bitmap (state_of reader.old) (map (λ w. w.now) words.now)) }
+    requires { length reader.old.made.items < most_commands }
+    ensures value { ReadsLine result (state_of reader.new) (read_bitmap (state_of reader.old) (map (λ w. w.now) words.now)) }
     ensures can { IfOk result CanDo }
     ensures made { IfOk result (λ _. length reader.new.made.items ≤ length reader.old.made.items + 1) }
 {
@@ -168,7 +173,7 @@ pub fn bitmap<'a>(
 /// delete NAME
 #[tactic(auto, unfolding(crate::specs::Commands::read_delete))]
 pub fn delete(reader: &mut Reader<'_>, words: &[&[u8]]) -> Result<ScriptCommand, ReadError>
-    ensures value { Reads result (state_of reader.new) (read_delete (state_of reader.old) (map (λ w. w.now) words.now)) }
+    ensures value { ReadsLine result (state_of reader.new) (read_delete (state_of reader.old) (map (λ w. w.now) words.now)) }
     ensures can { IfOk result CanDo }
     ensures made { IfOk result (λ _. length reader.new.made.items ≤ length reader.old.made.items + 1) }
 {

@@ -2,7 +2,7 @@
 
 ghost use Rattle.std.specs.Prelude.{◌≡◌, IsTrue};
 ghost use Rattle.script_orders.specs.Asked.{MaskIsOther};
-ghost use Rattle.script_read.specs.Drawing.{feed_from, feed_for, mask_for, is_brush, has_operands, is_mono, is_bitmap, is_other, number_of_mask};
+ghost use Rattle.script_read.specs.Drawing.{feed_from, needed_feed, needed_mask, is_brush, has_operands, is_mono_mask, is_bitmap, is_other, number_of_mask};
 
 use rop_mix::{Rop4, needs_mask, needs_pattern, needs_source};
 use script_names::Bitmap;
@@ -19,8 +19,8 @@ pub fn feed_from(spot: Spot) -> Feed
 }
 
 /// The source, where it is needed.
-pub fn feed_for(needed: bool, source: Option<Spot>) -> Feed
-    ensures { result ≡ feed_for needed source }
+pub fn needed_feed(needed: bool, source: Option<Spot>) -> Feed
+    ensures { result ≡ needed_feed needed source }
 {
     match source {
         Some(spot) if needed => feed_from(spot),
@@ -29,8 +29,8 @@ pub fn feed_for(needed: bool, source: Option<Spot>) -> Feed
 }
 
 /// The mask, where it is needed.
-pub fn mask_for(needed: bool, mask: Option<Bitmap>) -> Option<Bitmap>
-    ensures { result ≡ mask_for needed mask }
+pub fn needed_mask(needed: bool, mask: Option<Bitmap>) -> Option<Bitmap>
+    ensures { result ≡ needed_mask needed mask }
 {
     if needed { mask } else { None }
 }
@@ -55,8 +55,8 @@ pub fn has_operands(rop: Rop4, source: Option<Spot>, mask: Option<Bitmap>, brush
 }
 
 /// A mask has one bit for each pixel.
-pub fn is_mono(mask: Option<Bitmap>) -> bool
-    ensures { result ≡ is_mono mask }
+pub fn is_mono_mask(mask: Option<Bitmap>) -> bool
+    ensures { result ≡ is_mono_mask mask }
 {
     match mask {
         Some(bitmap) => bitmap.format.bits() == 1,

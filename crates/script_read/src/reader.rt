@@ -1,6 +1,8 @@
 //! Lines read one after the other.
 
 ghost use Rattle.std.specs.Prelude.{All, ◌≡◌, ◌<◌, ◌≤◌, ◌+◌, IfOk, IfSome, length, map};
+ghost use Rattle.script_words.specs.Bounds.{most_name_bytes};
+ghost use Rattle.script_orders.specs.Limits.{most_names, most_brushes, most_tables, most_bitmaps, most_bitmap_pixels, most_region_rects};
 
 use crate::drawings::{blt, copy, paint, pixels};
 use crate::naming::{bitmap, brush, delete, table};
@@ -9,8 +11,8 @@ use crate::verb::{Verb, fits_count, verb_of};
 use geom_base::Point;
 use pix_format::Rgb;
 use script_names::{Entry, Names, clip, named};
-use script_orders::{NamedRegion, ScriptCommand};
-use script_words::{Fault, ReadError, colour, point, word, words};
+use script_orders::{MOST_COMMANDS, NamedRegion, ScriptCommand};
+use script_words::{ReadError, Refusal, colour, point, word, words};
 use std::alloc::{AllocError, Global};
 
 /// What is kept from line to line.
@@ -31,25 +33,27 @@ pub struct Reader<'a> {
     pub(crate) origin: Point,
     pub(crate) clip: Option<NamedRegion>,
     pub(crate) back: Rgb,
-    ghost few_names: { live ≤ 10000 },
-    ghost few_brushes: { brushes ≤ 1024 },
-    ghost few_tables: { tables ≤ 256 },
-    ghost few_bitmaps: { bitmaps ≤ 4096 },
-    ghost few_pixels: { pixels ≤ 16777216 },
-    ghost few_rectangles: { rectangles ≤ 262144 },
-    ghost short_names: { All (λ w. length w.now ≤ 32) made.items },
+    ghost few_names: { live ≤ most_names },
+    ghost few_brushes: { brushes ≤ most_brushes },
+    ghost few_tables: { tables ≤ most_tables },
+    ghost few_bitmaps: { bitmaps ≤ most_bitmaps },
+    ghost few_pixels: { pixels ≤ most_bitmap_pixels },
+    ghost few_rectangles: { rectangles ≤ most_region_rects },
+    ghost short_names: { All (λ w. length w.now ≤ most_name_bytes) made.items },
 }
 
 impl<'a> Reader<'a> {
     ghost use Rattle.std.specs.Option.{option_to_list};
     ghost use Rattle.script_orders.specs.Asked.{CanDo};
-    ghost use Rattle.script_read.specs.State.{Reads, first_state, state_of};
-    ghost use Rattle.script_read.specs.Reading.{ReadsText, read_text_line};
+    ghost use Rattle.script_orders.specs.Limits.{most_commands};
+    ghost use Rattle.script_read.specs.InnerReading.{ReadsLine, ReadsTextLine, state_of};
+    ghost use Rattle.script_read.specs.State.{first_reader_state};
+    ghost use Rattle.script_read.specs.Reading.{read_text_line};
     ghost use Rattle.script_read.specs.Commands.{meaning_of, read_back, read_brushorg, read_clip, read_dump, read_line, read_sum};
 
     /// What is known before the first line.
     pub fn new(alloc: Global) -> Result<Reader<'a>, AllocError>
-        ensures { IfOk result (λ r. state_of r ≡ first_state) }
+        ensures { IfOk result (λ r. state_of r ≡ first_reader_state) }
     {
         let mut names = Names::new(alloc);
         names.insert(b"screen".as_slice(), Entry::Screen)?;
@@ -82,8 +86,8 @@ impl<'a> Reader<'a> {
         line: &'a [u8],
     ) -> Result<Option<ScriptCommand>, ReadError>
         requires { length self.old.made.items ≤ commands }
-        ensures value { ReadsText result (state_of self.new) (read_text_line commands (state_of self.old) line.now) }
-        ensures few { IfOk result (λ asked. IfSome asked (λ _. commands < 100000)) }
+        ensures value { ReadsTextLine result (state_of self.new) (read_text_line commands (state_of self.old) line.now) }
+        ensures few { IfOk result (λ asked. IfSome asked (λ _. commands < most_commands)) }
         ensures can { IfOk result (λ asked. IfSome asked CanDo) }
         ensures made { IfOk result (λ asked. length self.new.made.items ≤ length self.old.made.items + length (option_to_list asked)) }
     {
@@ -111,7 +115,7 @@ impl<'a> Reader<'a> {
     /// back C
     #[tactic(auto, unfolding(crate::specs::Commands::read_back))]
     fn set_back(&mut self, words: &[&[u8]]) -> Result<ScriptCommand, ReadError>
-        ensures value { Reads result (state_of self.new) (read_back (state_of self.old) (map (λ w. w.now) words.now)) }
+        ensures value { ReadsLine result (state_of self.new) (read_back (state_of self.old) (map (λ w. w.now) words.now)) }
         ensures can { IfOk result CanDo }
         ensures made { IfOk result (λ _. length self.new.made.items ≤ length self.old.made.items + 1) }
     {
@@ -122,7 +126,7 @@ impl<'a> Reader<'a> {
     /// brushorg X Y
     #[tactic(auto, unfolding(crate::specs::Commands::read_brushorg))]
     fn set_origin(&mut self, words: &[&[u8]]) -> Result<ScriptCommand, ReadError>
-        ensures value { Reads result (state_of self.new) (read_brushorg (state_of self.old) (map (λ w. w.now) words.now)) }
+        ensures value { ReadsLine result (state_of self.new) (read_brushorg (state_of self.old) (map (λ w. w.now) words.now)) }
         ensures can { IfOk result CanDo }
         ensures made { IfOk result (λ _. length self.new.made.items ≤ length self.old.made.items + 1) }
     {
@@ -133,7 +137,7 @@ impl<'a> Reader<'a> {
     /// clip NAME
     #[tactic(auto, unfolding(crate::specs::Commands::read_clip))]
     fn set_clip(&mut self, words: &[&[u8]]) -> Result<ScriptCommand, ReadError>
-        ensures value { Reads result (state_of self.new) (read_clip (state_of self.old) (map (λ w. w.now) words.now)) }
+        ensures value { ReadsLine result (state_of self.new) (read_clip (state_of self.old) (map (λ w. w.now) words.now)) }
         ensures can { IfOk result CanDo }
         ensures made { IfOk result (λ _. length self.new.made.items ≤ length self.old.made.items + 1) }
     {
@@ -144,7 +148,7 @@ impl<'a> Reader<'a> {
     /// dump X
     #[tactic(auto, unfolding(crate::specs::Commands::read_dump))]
     fn dump(&self, words: &[&[u8]]) -> Result<ScriptCommand, ReadError>
-        ensures value { Reads result (state_of self.now) (read_dump (state_of self.now) (map (λ w. w.now) words.now)) }
+        ensures value { ReadsLine result (state_of self.now) (read_dump (state_of self.now) (map (λ w. w.now) words.now)) }
         ensures can { IfOk result CanDo }
     {
         let surface = named(&self.names, word(words, 1))?;
@@ -154,7 +158,7 @@ impl<'a> Reader<'a> {
     /// sum X
     #[tactic(auto, unfolding(crate::specs::Commands::read_sum))]
     fn sum(&self, words: &[&[u8]]) -> Result<ScriptCommand, ReadError>
-        ensures value { Reads result (state_of self.now) (read_sum (state_of self.now) (map (λ w. w.now) words.now)) }
+        ensures value { ReadsLine result (state_of self.now) (read_sum (state_of self.now) (map (λ w. w.now) words.now)) }
         ensures can { IfOk result CanDo }
     {
         let surface = named(&self.names, word(words, 1))?;
@@ -170,17 +174,17 @@ impl<'a> Reader<'a> {
         words: &[&'a [u8]],
     ) -> Result<ScriptCommand, ReadError>
         requires { length self.old.made.items ≤ commands }
-        ensures value { Reads result (state_of self.new) (read_line commands (state_of self.old) (map (λ w. w.now) words.now)) }
-        ensures few { IfOk result (λ _. commands < 100000) }
+        ensures value { ReadsLine result (state_of self.new) (read_line commands (state_of self.old) (map (λ w. w.now) words.now)) }
+        ensures few { IfOk result (λ _. commands < most_commands) }
         ensures can { IfOk result CanDo }
         ensures made { IfOk result (λ _. length self.new.made.items ≤ length self.old.made.items + 1) }
     {
-        if commands >= 100000 {
-            return Err(ReadError::Fault(Fault::TooManyCommands));
+        if commands >= MOST_COMMANDS {
+            return Err(ReadError::Refused(Refusal::TooManyCommands));
         }
         let verb = verb_of(word(words, 0))?;
         if !fits_count(verb, words) {
-            return Err(ReadError::Fault(Fault::WordCount));
+            return Err(ReadError::Refused(Refusal::WordCount));
         }
         self.meaning(alloc, verb, words)
     }
@@ -195,8 +199,8 @@ impl<'a> Reader<'a> {
         requires words { 2 ≤ length words.now }
         requires row { verb ≡ Verb.Pixels → 4 ≤ length words.now }
         requires form { verb ≡ Verb.Region → 3 ≤ length words.now }
-        requires few { length self.old.made.items < 100000 }
-        ensures value { Reads result (state_of self.new) (meaning_of verb (state_of self.old) (map (λ w. w.now) words.now)) }
+        requires few { length self.old.made.items < most_commands }
+        ensures value { ReadsLine result (state_of self.new) (meaning_of verb (state_of self.old) (map (λ w. w.now) words.now)) }
         ensures can { IfOk result CanDo }
         ensures made { IfOk result (λ _. length self.new.made.items ≤ length self.old.made.items + 1) }
     {

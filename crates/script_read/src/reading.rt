@@ -4,47 +4,49 @@ ghost use Rattle.std.specs.Prelude.{◌≡◌, ◌≤◌, ◌+◌, ◌<◌, ◌^
 ghost use Rattle.std.specs.Option.{option_to_list};
 ghost use Rattle.script_words.specs.Lines.{lines_of};
 ghost use Rattle.script_orders.specs.Asked.{CanDo};
-ghost use Rattle.script_read.specs.Reading.{Answers, Refuses, number_of_fault, read_lines};
-ghost use Rattle.script_read.specs.State.{first_state};
+ghost use Rattle.script_orders.specs.Limits.{most_commands};
+ghost use Rattle.script_read.specs.InnerReading.{RefusesLine};
+ghost use Rattle.script_read.specs.Reading.{Answers, number_of_refusal, read_lines};
+ghost use Rattle.script_read.specs.State.{first_reader_state};
 
 use crate::reader::Reader;
 use crate::refusal::ScriptRefusal;
 use script_orders::{Script, ScriptCommand};
-use script_words::{Fault, ReadError, first_line};
+use script_words::{ReadError, Refusal, first_line};
 use std::alloc::{AllocError, Global};
 
-/// The number of a fault.
-fn number_of(fault: Fault) -> u32
-    ensures { result ≡ number_of_fault fault }
+/// The number of a refusal.
+fn number_of_refusal(refusal: Refusal) -> u32
+    ensures { result ≡ number_of_refusal refusal }
 {
-    match fault {
-        Fault::UnknownCommand => 1,
-        Fault::WordCount => 2,
-        Fault::Spelling => 3,
-        Fault::Range => 4,
-        Fault::UnknownName => 5,
-        Fault::NameInUse => 6,
-        Fault::BadName => 7,
-        Fault::NotOrdered => 8,
-        Fault::OperandMissing => 9,
-        Fault::MaskNotMono => 10,
-        Fault::MaskIsTarget => 11,
-        Fault::PastLimit => 12,
-        Fault::RegionTooLarge => 13,
-        Fault::TooManyCommands => 14,
-        Fault::TableMisfit => 15,
+    match refusal {
+        Refusal::UnknownCommand => 1,
+        Refusal::WordCount => 2,
+        Refusal::Spelling => 3,
+        Refusal::Range => 4,
+        Refusal::UnknownName => 5,
+        Refusal::NameInUse => 6,
+        Refusal::BadName => 7,
+        Refusal::NotOrdered => 8,
+        Refusal::OperandMissing => 9,
+        Refusal::MaskNotMono => 10,
+        Refusal::MaskIsTarget => 11,
+        Refusal::PastLimit => 12,
+        Refusal::RegionTooLarge => 13,
+        Refusal::TooManyCommands => 14,
+        Refusal::TableMisfit => 15,
     }
 }
 
 /// The refusal of a line.
 fn refusal(line: u64, error: ReadError) -> ScriptRefusal
-    ensures { Refuses result line error }
+    ensures { RefusesLine result line error }
 {
     match error {
-        ReadError::Memory => ScriptRefusal::NoMemory,
-        ReadError::Fault(fault) => ScriptRefusal::Refused {
+        ReadError::NoMemory => ScriptRefusal::NoMemory,
+        ReadError::Refused(refusal) => ScriptRefusal::Refused {
             line,
-            number: number_of(fault),
+            number: number_of_refusal(refusal),
         },
     }
 }
@@ -66,8 +68,8 @@ pub fn read_script<'a>(
     first: u64,
 ) -> Result<Script<'a>, ScriptRefusal>
     requires { first + length (lines_of text.now) < 2 ^ 64 }
-    ensures value { Answers result (read_lines first 0 first_state (lines_of text.now)) }
-    ensures few { IfOk result (λ s. length s.commands ≤ 100000) }
+    ensures value { Answers result (read_lines first 0 first_reader_state (lines_of text.now)) }
+    ensures few { IfOk result (λ s. length s.commands ≤ most_commands) }
     ensures can { IfOk result (λ s. All CanDo s.commands) }
 {
     let mut reader = match Reader::new(alloc) {

@@ -7,12 +7,13 @@ ghost use Rattle.region.specs.Canonical.{Gives, canonical_rects};
 ghost use Rattle.region.specs.Moved.{CanMove};
 ghost use Rattle.region.specs.Window.{Within};
 ghost use Rattle.script_words.specs.Places.{is_well_ordered};
-ghost use Rattle.script_words.specs.declared.fault.Fault.TheVariants.{PastLimit, RegionTooLarge};
+ghost use Rattle.script_words.specs.declared.refusal.Refusal.TheVariants.{PastLimit, RegionTooLarge};
 ghost use Rattle.script_orders.specs.Asked.{CanDo};
 ghost use Rattle.script_names.specs.Names.{names_of};
-ghost use Rattle.script_read.specs.State.{Reads, state_of};
+ghost use Rattle.script_read.specs.InnerReading.{FindsRegion, ReadsLine, state_of};
 ghost use Rattle.script_names.specs.Fields.{operation_of};
-ghost use Rattle.script_read.specs.Regions.{FindsRegion, combined_at, distance_at, form_at, has_edges, listed_at, named_region_at, shift_at, shifted_at};
+ghost use Rattle.script_orders.specs.Limits.{most_rects, most_region_rects};
+ghost use Rattle.script_read.specs.Regions.{combined_in, distance_in, form_in, has_edges, listed_in, named_region_in, shift_in, shifted_in};
 ghost use Rattle.script_read.specs.Commands.{has_room_for_rects, keep_region, read_region};
 
 use crate::naming::has_room;
@@ -20,11 +21,11 @@ use crate::reader::Reader;
 use geom_base::{Point, Rect};
 use region::{Operation, Region, RegionRefusal};
 use script_names::{Entry, Names, new_name, operation_named, rects, region as known_region};
-use script_orders::{NamedRegion, ScriptCommand};
-use script_words::{Fault, ReadError, number, well_ordered, word};
+use script_orders::{MOST_REGION_RECTS, NamedRegion, ScriptCommand};
+use script_words::{GREATEST_NUMBER, ReadError, Refusal, number, well_ordered, word};
 use std::alloc::Global;
 
-/// A region, or why there is none; or a fault of the line.
+/// A region, or why there is none; or a refusal of the line.
 type Found = Result<Result<Region, RegionRefusal>, ReadError>;
 
 /// All rectangles are well ordered.
@@ -37,21 +38,21 @@ fn are_well_ordered(rects: &[Rect]) -> bool
 /// rects [R ...]
 fn listed(alloc: Global, words: &[&[u8]]) -> Found
     requires { 3 ≤ length words.now }
-    ensures { FindsRegion result (listed_at (map (λ w. w.now) words.now)) }
+    ensures { FindsRegion result (listed_in (map (λ w. w.now) words.now)) }
 {
     let rects = rects(alloc, words, 3)?;
     if !are_well_ordered(&rects) {
-        return Err(ReadError::Fault(Fault::NotOrdered));
+        return Err(ReadError::Refused(Refusal::NotOrdered));
     }
     Ok(Region::from_rects(alloc, &rects))
 }
 
 /// OP A B
 fn operated(names: &Names<'_>, alloc: Global, by: Option<Operation>, words: &[&[u8]]) -> Found
-    ensures { FindsRegion result (combined_at by (names_of names.now) (map (λ w. w.now) words.now)) }
+    ensures { FindsRegion result (combined_in by (names_of names.now) (map (λ w. w.now) words.now)) }
 {
     let Some(by) = by else {
-        return Err(ReadError::Fault(Fault::Spelling));
+        return Err(ReadError::Refused(Refusal::Spelling));
     };
     let a = known_region(names, word(words, 3))?;
     let b = known_region(names, word(words, 4))?;
@@ -59,15 +60,15 @@ fn operated(names: &Names<'_>, alloc: Global, by: Option<Operation>, words: &[&[
 }
 
 /// Any number.
-fn distance(word: &[u8]) -> Result<i32, Fault>
-    ensures { result ≡ distance_at word.now }
+fn distance(word: &[u8]) -> Result<i32, Refusal>
+    ensures { result ≡ distance_in word.now }
 {
-    number(word, -999_999_999, 999_999_999)
+    number(word, -GREATEST_NUMBER, GREATEST_NUMBER)
 }
 
 /// DX DY
-fn shift(words: &[&[u8]]) -> Result<Point, Fault>
-    ensures { result ≡ shift_at (map (λ w. w.now) words.now) }
+fn shift(words: &[&[u8]]) -> Result<Point, Refusal>
+    ensures { result ≡ shift_in (map (λ w. w.now) words.now) }
 {
     let x = distance(word(words, 4))?;
     let y = distance(word(words, 5))?;
@@ -85,13 +86,13 @@ fn can_shift(region: &Region, by: Point) -> bool
 
 /// offset A DX DY
 fn shifted(names: &Names<'_>, alloc: Global, words: &[&[u8]]) -> Found
-    ensures { FindsRegion result (shifted_at (names_of names.now) (map (λ w. w.now) words.now)) }
+    ensures { FindsRegion result (shifted_in (names_of names.now) (map (λ w. w.now) words.now)) }
 {
     let known = known_region(names, word(words, 3))?;
     let by = shift(words)?;
     let region = known.region();
     if !can_shift(region, by) {
-        return Err(ReadError::Fault(Fault::Range));
+        return Err(ReadError::Refused(Refusal::Range));
     }
     Ok(region.offset(alloc, by))
 }
@@ -99,7 +100,7 @@ fn shifted(names: &Names<'_>, alloc: Global, words: &[&[u8]]) -> Found
 /// A form of the command, by the third word.
 fn form(names: &Names<'_>, alloc: Global, words: &[&[u8]]) -> Found
     requires { 3 ≤ length words.now }
-    ensures { FindsRegion result (form_at (names_of names.now) (map (λ w. w.now) words.now)) }
+    ensures { FindsRegion result (form_in (names_of names.now) (map (λ w. w.now) words.now)) }
 {
     let form = word(words, 2);
     if form == b"rects".as_slice() {
@@ -114,7 +115,7 @@ fn form(names: &Names<'_>, alloc: Global, words: &[&[u8]]) -> Found
 /// NAME and a form.
 fn named_region(names: &Names<'_>, alloc: Global, words: &[&[u8]]) -> Found
     requires { 3 ≤ length words.now }
-    ensures { FindsRegion result (named_region_at (names_of names.now) (map (λ w. w.now) words.now)) }
+    ensures { FindsRegion result (named_region_in (names_of names.now) (map (λ w. w.now) words.now)) }
 {
     new_name(names, word(words, 1))?;
     form(names, alloc, words)
@@ -123,19 +124,19 @@ fn named_region(names: &Names<'_>, alloc: Global, words: &[&[u8]]) -> Found
 /// One more region of so many rectangles fits.
 fn has_room_for_rects(reader: &Reader<'_>, count: u64) -> bool
     ensures value { result ≡ has_room_for_rects (state_of reader.now) count }
-    ensures fits { IsTrue result → reader.now.rectangles + count ≤ 262144 }
+    ensures fits { IsTrue result → reader.now.rectangles + count ≤ most_region_rects }
 {
-    has_room(reader) && count <= u64::from(262_144 - reader.rectangles)
+    has_room(reader) && count <= u64::from(MOST_REGION_RECTS - reader.rectangles)
 }
 
 /// What is wrong with a region of too many rectangles.
-fn excess(reader: &Reader<'_>, count: u64) -> Fault
+fn excess(reader: &Reader<'_>, count: u64) -> Refusal
     ensures { result ≡ (if has_room_for_rects (state_of reader.now) count then RegionTooLarge else PastLimit) }
 {
     if has_room_for_rects(reader, count) {
-        Fault::RegionTooLarge
+        Refusal::RegionTooLarge
     } else {
-        Fault::PastLimit
+        Refusal::PastLimit
     }
 }
 
@@ -148,14 +149,14 @@ fn keep_region<'a>(
     region: Region,
 ) -> Result<ScriptCommand, ReadError>
     requires within { Within region }
-    requires few { length region ≤ 4096 }
-    ensures value { Reads result (state_of reader.new) (keep_region (state_of reader.old) name.now region) }
+    requires few { length region ≤ most_rects }
+    ensures value { ReadsLine result (state_of reader.new) (keep_region (state_of reader.old) name.now region) }
     ensures can { IfOk result CanDo }
     ensures made { IfOk result (λ _. length reader.new.made.items ≤ length reader.old.made.items + 1) }
 {
     let count = region.rects().len() as u32;
     if !has_room_for_rects(reader, u64::from(count)) {
-        return Err(ReadError::Fault(Fault::PastLimit));
+        return Err(ReadError::Refused(Refusal::PastLimit));
     }
     let kept = NamedRegion::of(alloc, region)?;
     reader.names.insert(name, Entry::Region(kept))?;
@@ -172,13 +173,13 @@ pub fn region<'a>(
     words: &[&'a [u8]],
 ) -> Result<ScriptCommand, ReadError>
     requires { 3 ≤ length words.now }
-    ensures value { Reads result (state_of reader.new) (read_region (state_of reader.old) (map (λ w. w.now) words.now)) }
+    ensures value { ReadsLine result (state_of reader.new) (read_region (state_of reader.old) (map (λ w. w.now) words.now)) }
     ensures can { IfOk result CanDo }
     ensures made { IfOk result (λ _. length reader.new.made.items ≤ length reader.old.made.items + 1) }
 {
     match named_region(&reader.names, alloc, words)? {
         Ok(region) => keep_region(reader, alloc, word(words, 1), region),
-        Err(RegionRefusal::TooMany(count)) => Err(ReadError::Fault(excess(reader, count))),
-        Err(RegionRefusal::NoMemory) => Err(ReadError::Memory),
+        Err(RegionRefusal::TooMany(count)) => Err(ReadError::Refused(excess(reader, count))),
+        Err(RegionRefusal::NoMemory) => Err(ReadError::NoMemory),
     }
 }

@@ -291,10 +291,10 @@ fn feed(source: &Feed) -> (u32, u64) {
 }
 
 /// Target, call, source, mask and brush of a drawing.
-type Drawing = (Spot, DrawCall, (u32, u64), Option<u32>, BrushUse);
+type WantedDrawing = (Spot, DrawCall, (u32, u64), Option<u32>, BrushUse);
 
 /// The drawings of the script, from its ninth command on.
-fn drawings() -> [Drawing; 5] {
+fn drawings() -> [WantedDrawing; 5] {
     let mask = Point { x: 0, y: -1 };
     let two = rect(0, 0, 2, 2);
     let masked = blt(two, mask, 0xb8aa);

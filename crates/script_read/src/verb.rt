@@ -1,10 +1,10 @@
 //! The commands.
 
 ghost use Rattle.std.specs.Prelude.{◌≡◌, ◌≤◌, IsTrue, length, map, Ok, Err};
-ghost use Rattle.script_read.specs.Commands.{spelling_of, all_verbs, verb_among, form_fits, region_fits, count_fits};
+ghost use Rattle.script_read.specs.Commands.{spelling_of, all_verbs, verb_among, brush_fits, region_fits, count_fits};
 
 use script_names::operation_named;
-use script_words::{Fault, word};
+use script_words::{Refusal, word};
 
 /// A command.
 #[derive(Clone, Copy, PartialEq, Eq, Debug)]
@@ -66,7 +66,7 @@ fn spelling(verb: Verb) -> &'static [u8]
 }
 
 /// The command that a word names.
-pub fn verb_of(word: &[u8]) -> Result<Verb, Fault>
+pub fn verb_of(word: &[u8]) -> Result<Verb, Refusal>
     ensures { result ≡ verb_among all_verbs word.now }
 {
     for verb in VERBS {
@@ -74,12 +74,12 @@ pub fn verb_of(word: &[u8]) -> Result<Verb, Fault>
             return Ok(verb);
         }
     }
-    Err(Fault::UnknownCommand)
+    Err(Refusal::UnknownCommand)
 }
 
 /// A brush of this form has so many words. The number isn't asked where the word is no form.
-fn fits_form(form: &[u8], count: usize) -> bool
-    ensures value { result ≡ form_fits form.now count }
+fn fits_brush(form: &[u8], count: usize) -> bool
+    ensures value { result ≡ brush_fits form.now count }
     ensures least { IsTrue result → 2 ≤ count }
 {
     if form == b"solid".as_slice() {
@@ -120,7 +120,7 @@ pub fn fits_count(verb: Verb, words: &[&[u8]]) -> bool
         Verb::Back => count == 2,
         Verb::Bitmap => count == 5 || count == 6,
         Verb::Blt => count == 14,
-        Verb::Brush => fits_form(word(words, 2), count),
+        Verb::Brush => fits_brush(word(words, 2), count),
         Verb::Brushorg => count == 3,
         Verb::Clip => count == 2,
         Verb::Copy => count == 9,

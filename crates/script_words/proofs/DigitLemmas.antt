@@ -6,6 +6,7 @@ use Rattle.std.proofs.lemmas.List.Folds.{list_all_more}
 use Rattle.std.specs.List.{list_all}
 use Rattle.std.specs.Char.{is_digit, digit_value}
 use Rattle.std.specs.Str.Parse.{digits_value, AllDigits}
+use Rattle.script_words.specs.Bounds.{most_digits, greatest_number}
 use Rattle.script_words.specs.Spelling.{digits_in}
 use Rattle.std.proofs.lemmas.Option.{cond_some}
 
@@ -27,8 +28,9 @@ pub power_fits : (i : ℕ) → i ≤ 12 → 16 ^ i ≤ 16 ^ 12
 power_fits i h = pow-le-pow_right {n = 16} (omega arith) h
 
 -- one more digit of a word
-pub one_more : (base : ℕ) (word : List ℕ) (i value digit : ℕ) → base ≤ 16 → i < length word → digit < base → digit ≡ digit_value (get_or word i 0) → DigitsTo base (take i word) i value → DigitsTo base (take (i + 1) word) (i + 1) (value * base + digit)
-one_more base word i value digit b l d e front =
+pub one_digit_more : (base : ℕ) (word : List ℕ) (i value digit : ℕ) → base ≤ 16 → i < length word → digit < base → digit ≡ digit_value (get_or word i 0) →
+    DigitsTo base (take i word) i value → DigitsTo base (take (i + 1) word) (i + 1) (value * base + digit)
+one_digit_more base word i value digit b l d e front =
     let test : is_digit (get_or word i 0) base ≡ true = grind (arith, nat_tests, e) in
     record {
       digits = list_all_more (λ c. is_digit c base) word i 0 l ∙ cc;
@@ -40,9 +42,9 @@ all_digits : (base : ℕ) (word : List ℕ) → list_all (λ c. is_digit c base)
 all_digits base [] e = tt
 all_digits base (x ∷ xs) e = (grind (arith, nat_tests, e), all_digits base xs (grind (arith, nat_tests, e)))
 
--- at most nine decimal digits spell a number below a billion
-pub below_billion : (word : List ℕ) (n : ℕ) → Some n ≡ digits_in 10 9 word → n < 1000000000
-below_billion word n e =
+-- decimal digits spell no number over the greatest
+pub within_greatest : (word : List ℕ) (n : ℕ) → Some n ≡ digits_in 10 most_digits word → n ≤ greatest_number
+within_greatest word n e =
     let w = cond_some _ _ _ (sym e) in
     let short : length word ≤ 9 = grind (arith, nat_tests, w.0) in
     let digits : list_all (λ c. is_digit c 10) word ≡ true = grind (arith, nat_tests, w.0) in
@@ -51,7 +53,7 @@ below_billion word n e =
     omega (arith, bound, power, w.1)
 
 -- so many hexadecimal digits spell a number of so many bits
-pub below_power : (word : List ℕ) (n count : ℕ) → length word ≡ count → Some n ≡ digits_in 16 12 word → n < 16 ^ count
+pub below_power : (word : List ℕ) (n count : ℕ) → length word ≡ count → Some n ≡ digits_in 16 count word → n < 16 ^ count
 below_power word n count l e =
     let w = cond_some _ _ _ (sym e) in
     let digits : list_all (λ c. is_digit c 16) word ≡ true = grind (arith, nat_tests, w.0) in

@@ -1,4 +1,3 @@
-pub mod AskingLemmas
 pub mod DigitLemmas
 pub mod FindLemmas
 pub mod LineLemmas

@@ -19,16 +19,19 @@ some_from_cond true x e = absurd (cc)
 some_from_cond false x e = refl
 
 -- up to the first LF, and after it
-pub at_end : (text : List ℕ) (i : ℕ) → Some i ≡ position (λ b. b == 10) text → lines_of text ≡ strip_carriage_return (take i text) ∷ lines_of (drop (i + 1) text)
+pub at_end : (text : List ℕ) (i : ℕ) → Some i ≡ position (λ b. b == 10) text →
+    lines_of text ≡ strip_carriage_return (take i text) ∷ lines_of (drop (i + 1) text)
 at_end text i e =
     let w = cond_some _ _ _ (sym e) in
     let lt : position_or_len (λ b. b == 10) text < length text = grind (arith, nat_tests, w.0) in
-    let parts : slice_split (λ b. b == 10) text ≡ take i text ∷ slice_split (λ b. b == 10) (drop (i + 1) text) = rw (← w.1) (slice_split_first (λ b. b == 10) text 0 lt) in
-    ap without_returns parts ∙ with_more (take i text) (slice_split (λ b. b == 10) (drop (i + 1) text)) (omega (arith, length-slice_split (λ b. b == 10) (drop (i + 1) text)))
+    let rest = slice_split (λ b. b == 10) (drop (i + 1) text) in
+    let parts : slice_split (λ b. b == 10) text ≡ take i text ∷ rest = rw (← w.1) (slice_split_first (λ b. b == 10) text 0 lt) in
+    ap without_returns parts ∙ with_more (take i text) rest (omega (arith, length-slice_split (λ b. b == 10) (drop (i + 1) text)))
 
 pub no_end : (text : List ℕ) → None ≡ position (λ b. b == 10) text → lines_of text ≡ text ∷ []
 no_end text e =
     let all = some_from_cond _ _ e in
     let ge : length text ≤ position_or_len (λ b. b == 10) text = grind (arith, nat_tests, all) in
-    let none : All (λ x. (x == 10) ≡ false) text = All-from_get_or (λ x. (x == 10) ≡ false) text 0 (λ k h. fails_before_first (λ b. b == 10) text k 0 (omega arith)) in
+    let none : All (λ x. (x == 10) ≡ false) text =
+    All-from_get_or (λ x. (x == 10) ≡ false) text 0 (λ k h. fails_before_first (λ b. b == 10) text k 0 (omega arith)) in
     ap without_returns (slice_split_none (λ b. b == 10) text none)

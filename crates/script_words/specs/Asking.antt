@@ -1,8 +1,8 @@
--- Asking one thing after another: a value, or the first fault.
+-- Asking one thing after another: a value, or the first refusal.
 use Rattle.std.specs.Prelude.{◌≡◌, ℕ, Bool, true, false, List, [], ◌∷◌, Result, Ok, Err}
-use Rattle.script_words.specs.declared.fault.Fault.{Fault}
-use Rattle.script_words.specs.declared.fault.ReadError.{ReadError}
-use Rattle.script_words.specs.declared.fault.ReadError.TheVariants as errors
+use Rattle.script_words.specs.declared.refusal.Refusal.{Refusal}
+use Rattle.script_words.specs.declared.refusal.ReadError.{ReadError}
+use Rattle.script_words.specs.declared.refusal.ReadError.TheVariants as errors
 
 infixl 10 ◌>>=◌
 abbrev pub ◌>>=◌ : {A B E : Type 0} → Result A E → (A → Result B E) → Result B E
@@ -11,11 +11,11 @@ abbrev pub ◌>>=◌ : {A B E : Type 0} → Result A E → (A → Result B E) �
 
 -- a test that has to pass
 abbrev pub ask : {E : Type 0} → Bool → E → Result (Unit {0}) E
-ask true fault = Ok tt
-ask false fault = Err fault
+ask true refusal = Ok tt
+ask false refusal = Err refusal
 
 -- a value for each word, from left to right
-abbrev pub each : {A : Type 0} → (List ℕ → Result A Fault) → List (List ℕ) → Result (List A) Fault
+abbrev pub each : {A : Type 0} → (List ℕ → Result A Refusal) → List (List ℕ) → Result (List A) Refusal
 each read [] = Ok []
 each read (w ∷ words) = do
   x ← read w
@@ -23,10 +23,10 @@ each read (w ∷ words) = do
   Ok (x ∷ xs)
 
 -- what a function returned, seen by view, is what the definition gives, unless memory ran out
-abbrev pub Fails : {Y : Type 0} → ReadError → Result Y Fault → Type 0
-Fails errors.Memory read = Unit {0}
-Fails (errors.Fault f) read = read ≡ Err f
+abbrev pub FailsAs : {Y : Type 0} → ReadError → Result Y Refusal → Type 0
+FailsAs errors.NoMemory read = Unit {0}
+FailsAs (errors.Refused f) read = read ≡ Err f
 
-abbrev pub Gives : {X Y : Type 0} → (X → Y) → Result X ReadError → Result Y Fault → Type 0
-Gives view (Ok x) read = read ≡ Ok (view x)
-Gives view (Err e) read = Fails e read
+abbrev pub ReadsAs : {X Y : Type 0} → (X → Y) → Result X ReadError → Result Y Refusal → Type 0
+ReadsAs view (Ok x) read = read ≡ Ok (view x)
+ReadsAs view (Err e) read = FailsAs e read

@@ -1,4 +1,7 @@
+pub mod Bounds
 pub mod Asking
+pub mod AskingLaws
 pub mod Lines
+pub mod LineLaws
 pub mod Spelling
 pub mod Places

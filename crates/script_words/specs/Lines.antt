@@ -30,11 +30,11 @@ abbrev pub word_at : List (List ℕ) → ℕ → List ℕ
 word_at words i = slice_index_or words i []
 
 -- how many lines stand before the first that is exactly these bytes, where there is one
-abbrev pub place_of : List ℕ → List (List ℕ) → Option ℕ
-place_of wanted lines = position (λ line. bytes_eq line wanted) lines
+abbrev pub lines_before : List ℕ → List (List ℕ) → Option ℕ
+lines_before wanted lines = position (λ line. bytes_eq line wanted) lines
 
 -- the first line that is exactly these bytes was found, or there is none
 abbrev pub FindsLine : Option FoundLine → List ℕ → List (List ℕ) → Type 0
-FindsLine None wanted lines = place_of wanted lines ≡ None
+FindsLine None wanted lines = lines_before wanted lines ≡ None
 FindsLine (Some found) wanted lines =
-    (place_of wanted lines ≡ Some found.before) × (lines_after (option_copied found.after) ≡ drop (found.before + 1) lines)
+    (lines_before wanted lines ≡ Some found.before) × (lines_after (option_copied found.after) ≡ drop (found.before + 1) lines)

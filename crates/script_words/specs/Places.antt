@@ -1,11 +1,12 @@
--- Colours, points and rectangles: their values, or the first fault.
-use Rattle.std.specs.Prelude.{ℕ, ◌+◌, ◌/◌, ◌%◌, ℤ, ◌≤ℤ◌, pos, negsuc, int_le, List, Result, Ok, Bool, ◌&&◌}
+-- Colours, points and rectangles: their values, or the first refusal.
+use Rattle.std.specs.Prelude.{ℕ, ◌+◌, ◌/◌, ◌%◌, ℤ, ◌≤ℤ◌, int_le, List, Result, Ok, Bool, ◌&&◌}
 use Rattle.geom_base.specs.declared.point.Point.{Point}
 use Rattle.geom_base.specs.declared.rect.Rect.{Rect}
 use Rattle.pix_format.specs.declared.rgb.Rgb.{Rgb}
-use Rattle.script_words.specs.declared.fault.Fault.{Fault}
+use Rattle.script_words.specs.declared.refusal.Refusal.{Refusal}
 use Rattle.script_words.specs.Asking.{◌>>=◌}
-use Rattle.script_words.specs.Spelling.{hex_of, number_in}
+use Rattle.script_words.specs.Bounds.{least_coordinate, greatest_coordinate, greatest_point}
+use Rattle.script_words.specs.Spelling.{hexadecimal_in, number_in}
 use Rattle.script_words.specs.Lines.{word_at}
 
 -- the colour with these 24 bits, red the highest eight
@@ -13,18 +14,18 @@ abbrev pub rgb_of : ℕ → Rgb
 rgb_of bits = record { r = bits / 65536; g = bits / 256 % 256; b = bits % 256 }
 
 -- RRGGBB
-abbrev pub colour_at : List ℕ → Result Rgb Fault
-colour_at word = do
-  bits ← hex_of 6 word
+abbrev pub colour_in : List ℕ → Result Rgb Refusal
+colour_in word = do
+  bits ← hexadecimal_in 6 word
   Ok (rgb_of bits)
 
--- a coordinate of a rectangle, from -32768 to 32767
-abbrev pub coordinate_at : List ℕ → Result ℤ Fault
-coordinate_at word = number_in (negsuc 32767) (pos 32767) word
+-- a coordinate of a rectangle
+abbrev pub coordinate_in : List ℕ → Result ℤ Refusal
+coordinate_in word = number_in least_coordinate greatest_coordinate word
 
 -- and so is each edge of a rectangle
 abbrev pub IsCoordinate : ℤ → Type 0
-IsCoordinate z = (negsuc 32767 ≤ℤ z) × (z ≤ℤ pos 32767)
+IsCoordinate z = (least_coordinate ≤ℤ z) × (z ≤ℤ greatest_coordinate)
 
 pub record AreCoordinates (r : Rect) : Type 0 where
   pub left : IsCoordinate r.left
@@ -33,19 +34,19 @@ pub record AreCoordinates (r : Rect) : Type 0 where
   pub bottom : IsCoordinate r.bottom
 
 -- the rectangle of four words from number i on
-abbrev pub rect_at : List (List ℕ) → ℕ → Result Rect Fault
-rect_at words i = do
-  left ← coordinate_at (word_at words i)
-  top ← coordinate_at (word_at words (i + 1))
-  right ← coordinate_at (word_at words (i + 2))
-  bottom ← coordinate_at (word_at words (i + 3))
+abbrev pub rect_in : List (List ℕ) → ℕ → Result Rect Refusal
+rect_in words i = do
+  left ← coordinate_in (word_at words i)
+  top ← coordinate_in (word_at words (i + 1))
+  right ← coordinate_in (word_at words (i + 2))
+  bottom ← coordinate_in (word_at words (i + 3))
   Ok (record { left = left; top = top; right = right; bottom = bottom })
 
--- the point of two words from number i on, each from -32768 to 32766
-abbrev pub point_at : List (List ℕ) → ℕ → Result Point Fault
-point_at words i = do
-  x ← number_in (negsuc 32767) (pos 32766) (word_at words i)
-  y ← number_in (negsuc 32767) (pos 32766) (word_at words (i + 1))
+-- the point of two words from number i on
+abbrev pub point_in : List (List ℕ) → ℕ → Result Point Refusal
+point_in words i = do
+  x ← number_in least_coordinate greatest_point (word_at words i)
+  y ← number_in least_coordinate greatest_point (word_at words (i + 1))
   Ok (record { x = x; y = y })
 
 -- left isn't right of right, and top isn't below bottom

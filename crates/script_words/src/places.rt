@@ -1,9 +1,11 @@
 //! Colours, points and rectangles.
 
-ghost use Rattle.std.specs.Prelude.{◌≡◌, ◌<◌, ◌≤ℤ◌, ◌^◌, pos, IfOk, map};
-ghost use Rattle.script_words.specs.Places.{rgb_of, colour_at, coordinate_at, rect_at, point_at, is_well_ordered, IsCoordinate, AreCoordinates};
+ghost use Rattle.std.specs.Prelude.{◌≡◌, ◌<◌, ◌≤ℤ◌, ◌^◌, IfOk, map};
+ghost use Rattle.script_words.specs.Bounds.{greatest_point};
+ghost use Rattle.script_words.specs.Places.{rgb_of, colour_in, coordinate_in, rect_in, point_in, is_well_ordered, IsCoordinate, AreCoordinates};
 
-use crate::fault::Fault;
+use crate::bounds::{GREATEST_COORDINATE, GREATEST_POINT, LEAST_COORDINATE};
+use crate::refusal::Refusal;
 use crate::spelling::{hexadecimal, number};
 use crate::splitting::word;
 use geom_base::{Point, Rect};
@@ -22,24 +24,24 @@ fn rgb(bits: u32) -> Rgb
 }
 
 /// RRGGBB.
-pub fn colour(word: &[u8]) -> Result<Rgb, Fault>
-    ensures { result ≡ colour_at word.now }
+pub fn colour(word: &[u8]) -> Result<Rgb, Refusal>
+    ensures { result ≡ colour_in word.now }
 {
     let bits = hexadecimal(word, 6)?;
     Ok(rgb(bits as u32))
 }
 
-fn coordinate(word: &[u8]) -> Result<i32, Fault>
-    ensures value { result ≡ coordinate_at word.now }
+fn coordinate(word: &[u8]) -> Result<i32, Refusal>
+    ensures value { result ≡ coordinate_in word.now }
     ensures range { IfOk result IsCoordinate }
 {
-    number(word, -32768, 32767)
+    number(word, LEAST_COORDINATE, GREATEST_COORDINATE)
 }
 
 /// A rectangle of four words from number i on.
-pub fn rect(words: &[&[u8]], i: usize) -> Result<Rect, Fault>
+pub fn rect(words: &[&[u8]], i: usize) -> Result<Rect, Refusal>
     requires { i < 2 ^ 63 }
-    ensures value { result ≡ rect_at (map (λ w. w.now) words.now) i }
+    ensures value { result ≡ rect_in (map (λ w. w.now) words.now) i }
     ensures range { IfOk result AreCoordinates }
 {
     let left = coordinate(word(words, i))?;
@@ -55,13 +57,13 @@ pub fn rect(words: &[&[u8]], i: usize) -> Result<Rect, Fault>
 }
 
 /// A point of two words from number i on.
-pub fn point(words: &[&[u8]], i: usize) -> Result<Point, Fault>
+pub fn point(words: &[&[u8]], i: usize) -> Result<Point, Refusal>
     requires { i < 2 ^ 63 }
-    ensures value { result ≡ point_at (map (λ w. w.now) words.now) i }
-    ensures below { IfOk result (λ p. p.y ≤ℤ pos 32766) }
+    ensures value { result ≡ point_in (map (λ w. w.now) words.now) i }
+    ensures below { IfOk result (λ p. p.y ≤ℤ greatest_point) }
 {
-    let x = number(word(words, i), -32768, 32766)?;
-    let y = number(word(words, i + 1), -32768, 32766)?;
+    let x = number(word(words, i), LEAST_COORDINATE, GREATEST_POINT)?;
+    let y = number(word(words, i + 1), LEAST_COORDINATE, GREATEST_POINT)?;
     Ok(Point { x, y })
 }
 

@@ -1,8 +1,8 @@
 //! Lines, words, and words of each kind.
 
 use crate::{
-    Fault, colour, count, find_line, first_line, first_lines, hexadecimal, is_name, number, point,
-    rect, well_ordered, word, words,
+    Refusal, colour, count, find_line, first_line, first_lines, hexadecimal, is_name, number,
+    point, rect, well_ordered, word, words,
 };
 use geom_base::{Point, Rect};
 use pix_format::Rgb;
@@ -53,27 +53,27 @@ fn words_with_spaces_between(rt: HostRuntime) -> Result<(), Fail> {
 
 #[test]
 fn numbers_and_their_ranges(rt: HostRuntime) {
-    let cases: [(&[u8], Result<i32, Fault>); 10] = [
+    let cases: [(&[u8], Result<i32, Refusal>); 10] = [
         (b"0", Ok(0)),
         (b"-0", Ok(0)),
         (b"-005", Ok(-5)),
         (b"7", Ok(7)),
-        (b"8", Err(Fault::Range)),
-        (b"-999999999", Err(Fault::Range)),
-        (b"1234567890", Err(Fault::Spelling)),
-        (b"-", Err(Fault::Spelling)),
-        (b"--1", Err(Fault::Spelling)),
-        (b"+1", Err(Fault::Spelling)),
+        (b"8", Err(Refusal::Range)),
+        (b"-999999999", Err(Refusal::Range)),
+        (b"1234567890", Err(Refusal::Spelling)),
+        (b"-", Err(Refusal::Spelling)),
+        (b"--1", Err(Refusal::Spelling)),
+        (b"+1", Err(Refusal::Spelling)),
     ];
     for (word, want) in cases {
         assert_eq!(rt; number(word, -5, 7), want, "{word:?}");
     }
     assert_eq!(rt; count(b"16", 1, 16), Ok(16));
-    assert_eq!(rt; count(b"0", 1, 16), Err(Fault::Range));
-    assert_eq!(rt; count(b"-1", 0, 16), Err(Fault::Range));
+    assert_eq!(rt; count(b"0", 1, 16), Err(Refusal::Range));
+    assert_eq!(rt; count(b"-1", 0, 16), Err(Refusal::Range));
     assert_eq!(rt; hexadecimal(b"fF0", 3), Ok(0xff0));
-    assert_eq!(rt; hexadecimal(b"ff0", 4), Err(Fault::Spelling));
-    assert_eq!(rt; hexadecimal(b"fg0", 3), Err(Fault::Spelling));
+    assert_eq!(rt; hexadecimal(b"ff0", 4), Err(Refusal::Spelling));
+    assert_eq!(rt; hexadecimal(b"fg0", 3), Err(Refusal::Spelling));
 }
 
 #[test]
@@ -101,14 +101,14 @@ fn colours_points_and_rectangles(rt: HostRuntime) -> Result<(), Fail> {
         b: 0xff,
     };
     assert_eq!(rt; colour(b"12abFF"), Ok(mixed));
-    assert_eq!(rt; colour(b"#12abF"), Err(Fault::Spelling));
+    assert_eq!(rt; colour(b"#12abF"), Err(Refusal::Spelling));
     let line = words(rt.alloc(), b"-32768 32766 32767 -1 x")?;
     let corner = Point {
         x: -32768,
         y: 32766,
     };
     assert_eq!(rt; point(&line, 0), Ok(corner));
-    assert_eq!(rt; point(&line, 1), Err(Fault::Range));
+    assert_eq!(rt; point(&line, 1), Err(Refusal::Range));
     let upside_down = Rect {
         left: -32768,
         top: 32766,
@@ -116,7 +116,7 @@ fn colours_points_and_rectangles(rt: HostRuntime) -> Result<(), Fail> {
         bottom: -1,
     };
     assert_eq!(rt; rect(&line, 0), Ok(upside_down));
-    assert_eq!(rt; rect(&line, 1), Err(Fault::Spelling));
+    assert_eq!(rt; rect(&line, 1), Err(Refusal::Spelling));
     assert!(rt; !well_ordered(&upside_down));
     Ok(())
 }

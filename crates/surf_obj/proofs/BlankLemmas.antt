@@ -2,7 +2,7 @@ use Rattle.std.proofs.Common.{Bool, true, false, cond, ◌==◌, ◌≡◌, ◌�
 use Rattle.std.proofs.lemmas.List.{length-replicate}
 use Rattle.std.proofs.lemmas.Nat.Bits.{bit_at-zero}
 use Rattle.std.specs.Int.{bit_at}
-use Rattle.geom_base.proofs.GridLemmas.{same_grid}
+use Rattle.geom_base.specs.GridLaws.{same_grid}
 use Rattle.pix_format.specs.declared.format.Format.{Format}
 use Rattle.pix_format.specs.declared.format.Format.TheVariants.{B1, B4, B8, B555, B565, B24, B32}
 use Rattle.surf_obj.specs.Layout.{Layout, row_start, pixel_in, values_in}
@@ -31,5 +31,6 @@ pixel_in-zeros B32 n start x = simp get_or-zeros
 pub values_in-zeros : (l : Layout) (n : ℕ) → values_in l (replicate n 0) ≡ replicate (l.size.w * l.size.h) 0
 unfolding values_in
 values_in-zeros l n =
-    sym (same_grid l.size.w l.size.h (λ x y. pixel_in l.format (replicate n 0) (row_start l y) x) (replicate (l.size.w * l.size.h) 0) (length-replicate (l.size.w * l.size.h) 0)
+    sym (same_grid l.size.w l.size.h (λ x y. pixel_in l.format (replicate n 0) (row_start l y) x) (replicate (l.size.w * l.size.h) 0)
+    (length-replicate (l.size.w * l.size.h) 0)
     (λ x y hx hy. get_or-zeros (l.size.w * l.size.h) (y * l.size.w + x) ∙ sym (pixel_in-zeros l.format n (row_start l y) x)))

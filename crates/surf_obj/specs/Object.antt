@@ -2,37 +2,31 @@
 use Rattle.std.specs.Prelude.{ℕ, ◌≡◌, ◌+◌, ◌*◌, ◌/◌, false, List, replicate}
 use Rattle.geom_base.specs.declared.size.Size.{Size}
 use Rattle.pix_format.specs.declared.format.Format.{Format}
-use Rattle.surf_obj.specs.Layout.{Layout, layout_from, row_bytes, values_in, SamePadding}
+use Rattle.surf_obj.specs.Layout.{Layout, layout_from, row_bytes, values_in}
 use Rattle.surf_obj.specs.declared.object.SurfObj.{SurfObj}
 
 -- the bytes of a row, rounded up to four
 abbrev pub stride_of : Format → ℕ → ℕ
 stride_of format w = (row_bytes format w + 3) / 4 * 4
 
--- its layout: the top row first
 abbrev pub object_layout : SurfObj → Layout
-object_layout s = layout_from s.size s.format s.stride false
+object_layout s = s.layout
 
 abbrev pub object_size : SurfObj → Size
-object_size s = s.size
+object_size s = s.layout.size
 
 abbrev pub object_format : SurfObj → Format
-object_format s = s.format
+object_format s = s.layout.format
 
 abbrev pub object_bytes : SurfObj → List ℕ
 object_bytes s = s.bits.items
 
 -- the values of its pixels, row by row
 abbrev pub object_values : SurfObj → List ℕ
-object_values s = values_in (object_layout s) s.bits.items
+object_values s = values_in s.layout s.bits.items
 
--- a new surface: rows padded to four bytes, and all values 0
+-- a new surface: the top row first, rows padded to four bytes, and all values 0
 pub record IsBlank (size : Size) (format : Format) (s : SurfObj) : Type 0 where
   pub layout : object_layout s ≡ layout_from size format (stride_of format size.w) false
   pub bytes : object_bytes s ≡ replicate (size.h * stride_of format size.w) 0
   pub values : object_values s ≡ replicate (size.w * size.h) 0
-
--- only pixels changed: the form and the padding are as before
-pub record OnlyItsPixels (old new : SurfObj) : Type 0 where
-  pub layout : object_layout new ≡ object_layout old
-  pub padding : SamePadding (object_layout old) (object_bytes old) (object_bytes new)

@@ -3,7 +3,7 @@ use Rattle.std.specs.Prelude.{ℕ, pos, ◌+◌, ◌-◌, ◌+ℤ◌, List, Opti
 use Rattle.geom_base.specs.declared.point.Point.{Point}
 use Rattle.geom_base.specs.declared.rect.Rect.{Rect}
 use Rattle.geom_base.specs.declared.size.Size.{Size}
-use Rattle.surf_obj.specs.Surface.{value_at}
+use Rattle.geom_base.specs.Grid.{value_at}
 pub use Rattle.geom_base.specs.Points.{box_of}
 
 -- so many pixels of a row, from a point on
@@ -18,6 +18,6 @@ listed values left p d = Some (slice_index values (unsigned_abs p.x - left))
 abbrev pub solid : ℕ → Point → ℕ → Option ℕ
 solid value p d = Some value
 
--- the change to the values of a row of a surface; its column `from` belongs to the column `left`
-abbrev pub copied : Size → List ℕ → ℕ → ℕ → ℕ → Point → ℕ → Option ℕ
-copied size values from row left p d = Some (value_at size values (from + (unsigned_abs p.x - left)) row)
+-- the change to the values of a surface from a point on, whose value belongs to the point `at`
+abbrev pub copied : Size → List ℕ → Point → Point → Point → ℕ → Option ℕ
+copied size values from at p d = Some (value_at size values (unsigned_abs from.x + (unsigned_abs p.x - unsigned_abs at.x)) (unsigned_abs from.y))

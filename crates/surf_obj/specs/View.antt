@@ -6,13 +6,13 @@ use Rattle.surf_obj.specs.Layout.{Layout, values_in}
 use Rattle.surf_obj.specs.declared.view.LentView.{LentView}
 
 abbrev pub view_layout : LentView → Layout
-view_layout s = record { size = s.size; format = s.format; stride = s.stride; bottom_up = s.bottom_up }
+view_layout s = s.layout
 
 abbrev pub view_size : LentView → Size
-view_size s = s.size
+view_size s = s.layout.size
 
 abbrev pub view_format : LentView → Format
-view_format s = s.format
+view_format s = s.layout.format
 
 -- the bytes that it reads
 abbrev pub view_bytes : LentView → List ℕ
@@ -20,7 +20,7 @@ view_bytes s = s.bits.now
 
 -- the values of its pixels, row by row
 abbrev pub view_values : LentView → List ℕ
-view_values s = values_in (view_layout s) s.bits.now
+view_values s = values_in s.layout s.bits.now
 
 -- a surface of this layout on these bytes
 pub record ViewOver (bytes : List ℕ) (l : Layout) (s : LentView) : Type 0 where

@@ -1,7 +1,7 @@
 //! Copies of bytes.
 
 ghost use Rattle.std.specs.Prelude.{◌≡◌, ◌≤◌, ◌<◌, ◌+◌, ℕ, length, slice_index};
-ghost use Rattle.surf_obj.specs.Bytes.{ChangesOnly};
+ghost use Rattle.surf_obj.specs.InnerBytes.{ChangesOnly};
 
 /// Copies so many bytes from elsewhere.
 pub fn copy_bytes(bits: &mut [u8], at: usize, source: &[u8], first: usize, len: usize)

@@ -1,54 +1,92 @@
 //! Where rows and pixels lie in bytes.
 
-ghost use Rattle.std.specs.Prelude.{◌≡◌, ◌≤◌, ◌<◌, ◌+◌, ◌-◌, ◌*◌, ◌%◌, pos, ◌≤ℤ◌, if◌then◌else◌};
+ghost use Rattle.std.specs.Prelude.{◌≡◌, ◌≤◌, ◌<◌, ◌+◌, ◌-◌, ◌*◌, ◌%◌, ◌^◌, pos, ◌≤ℤ◌};
 ghost use Rattle.pix_format.specs.Value.{bits_of};
-ghost use Rattle.surf_obj.specs.Layout.{row_bytes};
+ghost use Rattle.surf_obj.specs.InnerRuns.{IsWholePart};
+ghost use Rattle.surf_obj.specs.Layout.{layout_from, row_bytes, row_start, rows_of, delta_of};
 
 use geom_base::Size;
 use pix_format::Format;
 
-/// How many bits a pixel has.
-pub fn bits_of(format: Format) -> u32
-    ensures bits { result ≡ bits_of format }
-    ensures small { result ≤ 32 }
-{
-    match format {
-        Format::B1 => 1,
-        Format::B4 => 4,
-        Format::B8 => 8,
-        Format::B555 | Format::B565 => 16,
-        Format::B24 => 24,
-        Format::B32 => 32,
+/// Where the pixels of a surface lie in its bytes: its width and height, how a pixel is kept, the byte at which the first row in
+/// them begins, the bytes from a row to the next one, and whether the lowest row is the first.
+#[derive(Clone, Copy, Debug, PartialEq, Eq)]
+pub struct Layout {
+    pub size: Size,
+    pub format: Format,
+    pub start: usize,
+    pub stride: u32,
+    pub bottom_up: bool,
+}
+
+impl Layout {
+    /// The layout whose rows begin at the first byte.
+    pub fn new(size: Size, format: Format, stride: u32, bottom_up: bool) -> Layout
+        ensures { result ≡ layout_from size format stride bottom_up }
+    {
+        Layout {
+            size,
+            format,
+            start: 0,
+            stride,
+            bottom_up,
+        }
+    }
+
+    /// The layout of so many of its rows, in the same bytes.
+    pub fn rows(self, top: u32, rows: u32) -> Layout
+        requires inside { top + rows ≤ self.size.h }
+        requires room { self.start + self.size.h * self.stride < 2 ^ 64 }
+        ensures { result ≡ rows_of self top rows }
+    {
+        let first = if self.bottom_up {
+            self.size.h - top - rows
+        } else {
+            top
+        };
+        Layout {
+            size: Size {
+                w: self.size.w,
+                h: rows,
+            },
+            start: self.start + first as usize * self.stride as usize,
+            ..self
+        }
+    }
+
+    /// The signed distance in bytes from a row to the next one below.
+    pub(crate) fn delta(self) -> i64
+        ensures { result ≡ delta_of self }
+    {
+        if self.bottom_up {
+            -(self.stride as i64)
+        } else {
+            self.stride as i64
+        }
+    }
+
+    /// The byte at which a row begins.
+    pub(crate) fn row_start(self, y: u32) -> usize
+        requires row { y < self.size.h }
+        requires room { self.start + self.size.h * self.stride < 2 ^ 64 }
+        ensures { result ≡ row_start self y }
+    {
+        let row = if self.bottom_up {
+            self.size.h - 1 - y
+        } else {
+            y
+        };
+        self.start + row as usize * self.stride as usize
     }
 }
 
 /// How many bytes the pixels of a row take.
+#[tactic(auto, using(crate::proofs::LayoutLemmas::bits_small))]
 pub fn row_bytes(format: Format, w: u32) -> u32
     requires { w ≤ 4096 }
     ensures { result ≡ row_bytes format w }
 {
-    (w * bits_of(format) + 7) / 8
-}
-
-/// The byte at which a row begins.
-pub fn row_start(size: Size, stride: u32, bottom_up: bool, y: u32) -> usize
-    requires { y < size.h }
-    ensures { result ≡ (if bottom_up then size.h - 1 - y else y) * stride }
-{
-    let row = if bottom_up { size.h - 1 - y } else { y };
-    row as usize * stride as usize
-}
-
-/// The bytes of some rows: the first one, and the one past the last.
-pub fn rows_range(size: Size, stride: u32, bottom_up: bool, top: u32, rows: u32) -> (usize, usize)
-    requires { top + rows ≤ size.h }
-    ensures from { result.0 ≡ (if bottom_up then size.h - top - rows else top) * stride }
-    ensures to { result.1 ≡ result.0 + rows * stride }
-    ensures within { result.1 ≤ size.h * stride }
-{
-    let first = if bottom_up { size.h - top - rows } else { top };
-    let from = first as usize * stride as usize;
-    (from, from + rows as usize * stride as usize)
+    (w * format.bits() + 7) / 8
 }
 
 /// A coordinate that is not negative.
@@ -59,15 +97,9 @@ pub fn coordinate(at: i32) -> u32
     at as u32
 }
 
-/// The part of a run of pixels that is whole bytes: the first of its pixels, and the one past the last. What it leaves on each
-/// side is less than a byte.
+/// The part of a run of pixels that is whole bytes: the first of its pixels, and the one past the last.
 pub fn whole_part(format: Format, x: u32, len: usize) -> (usize, usize)
-    ensures order { result.0 ≤ result.1 }
-    ensures within { result.1 ≤ len }
-    ensures start { result.0 < result.1 → (x + result.0) * bits_of format % 8 ≡ 0 }
-    ensures count { (result.1 - result.0) * bits_of format % 8 ≡ 0 }
-    ensures left { result.0 * bits_of format < 8 }
-    ensures right { (len - result.1) * bits_of format < 8 }
+    ensures { IsWholePart (bits_of format) x len result }
 {
     match format {
         Format::B1 => whole_eights(x, len),
@@ -77,24 +109,14 @@ pub fn whole_part(format: Format, x: u32, len: usize) -> (usize, usize)
 }
 
 fn whole_eights(x: u32, len: usize) -> (usize, usize)
-    ensures order { result.0 ≤ result.1 }
-    ensures within { result.1 ≤ len }
-    ensures start { result.0 < result.1 → (x + result.0) % 8 ≡ 0 }
-    ensures count { (result.1 - result.0) % 8 ≡ 0 }
-    ensures left { result.0 < 8 }
-    ensures right { len - result.1 < 8 }
+    ensures { IsWholePart 1 x len result }
 {
     let from = ((8 - x as usize % 8) % 8).min(len);
     (from, from + (len - from) / 8 * 8)
 }
 
 fn whole_pairs(x: u32, len: usize) -> (usize, usize)
-    ensures order { result.0 ≤ result.1 }
-    ensures within { result.1 ≤ len }
-    ensures start { result.0 < result.1 → (x + result.0) % 2 ≡ 0 }
-    ensures count { (result.1 - result.0) % 2 ≡ 0 }
-    ensures left { result.0 < 2 }
-    ensures right { len - result.1 < 2 }
+    ensures { IsWholePart 4 x len result }
 {
     let from = (x as usize % 2).min(len);
     (from, from + (len - from) / 2 * 2)

@@ -4,10 +4,10 @@ ghost use Rattle.std.specs.Prelude.{◌≡◌, ◌≢◌, ◌≤◌, ◌<◌, �
 ghost use Rattle.pix_format.specs.Value.{bits_of};
 ghost use Rattle.pix_format.specs.declared.format.Format.TheVariants.{B1, B4};
 ghost use Rattle.surf_obj.specs.Layout.{row_bytes, pixel_in};
-ghost use Rattle.surf_obj.specs.Bytes.{ChangesOnly, KeepsAfter};
+ghost use Rattle.surf_obj.specs.InnerBytes.{ChangesOnly, KeepsAfter};
 
 use crate::bytes::{bit, with_bit, with_high, with_low};
-use crate::words::{get16, get24, get32, put16, put24, put32};
+use crate::units::{Four, One, Three, Two, WholeBytes};
 use pix_format::Format;
 
 /// The value of a pixel.
@@ -19,10 +19,10 @@ pub fn get_value(bits: &[u8], at: usize, format: Format, x: usize) -> u32
     match format {
         Format::B1 => bit(bits[at + x / 8], 7 - (x % 8) as u32),
         Format::B4 => half(bits[at + x / 2], x % 2 == 0),
-        Format::B8 => bits[at + x] as u32,
-        Format::B555 | Format::B565 => get16(bits, at + 2 * x) as u32,
-        Format::B24 => get24(bits, at + 3 * x),
-        Format::B32 => get32(bits, at + 4 * x),
+        Format::B8 => One::get(bits, at, x),
+        Format::B555 | Format::B565 => Two::get(bits, at, x),
+        Format::B24 => Three::get(bits, at, x),
+        Format::B32 => Four::get(bits, at, x),
     }
 }
 
@@ -50,7 +50,10 @@ pub fn put_value(bits: &mut [u8], at: usize, format: Format, x: usize, value: u3
     match format {
         Format::B1 => put_bit(bits, at, x, value),
         Format::B4 => put_half(bits, at, x, value),
-        _ => put_bytes(bits, at, format, x, value),
+        Format::B8 => One::put(bits, at, x, value),
+        Format::B555 | Format::B565 => Two::put(bits, at, x, value),
+        Format::B24 => Three::put(bits, at, x, value),
+        Format::B32 => Four::put(bits, at, x, value),
     }
 }
 
@@ -81,22 +84,5 @@ fn put_half(bits: &mut [u8], at: usize, x: usize, value: u32)
         bits[byte] = with_high(bits[byte], value);
     } else {
         bits[byte] = with_low(bits[byte], value);
-    }
-}
-
-/// Writes a pixel of whole bytes.
-fn put_bytes(bits: &mut [u8], at: usize, format: Format, x: usize, value: u32)
-    requires whole { bits_of format % 8 ≡ 0 }
-    requires room { at + row_bytes format (x + 1) ≤ length bits.old }
-    requires value { value < 2 ^ bits_of format }
-    ensures value { pixel_in format bits.new at x ≡ value }
-    ensures bytes { ChangesOnly (at + x * bits_of format / 8) (at + row_bytes format (x + 1)) bits.old bits.new }
-{
-    match format {
-        Format::B1 | Format::B4 => {}
-        Format::B8 => bits[at + x] = value as u8,
-        Format::B555 | Format::B565 => put16(bits, at + 2 * x, value as u16),
-        Format::B24 => put24(bits, at + 3 * x, value),
-        Format::B32 => put32(bits, at + 4 * x, value),
     }
 }

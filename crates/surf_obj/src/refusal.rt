@@ -1,7 +1,8 @@
 //! Why bytes cannot be a surface.
 
-ghost use Rattle.std.specs.Prelude.{IfSome, IfNone};
-ghost use Rattle.surf_obj.specs.Layout.{HasSides, HoldsRows};
+ghost use Rattle.std.specs.Prelude.{◌≡◌, IfSome, IfNone, Bool};
+ghost use Rattle.geom_base.specs.Points.{HasSides};
+ghost use Rattle.surf_obj.specs.Layout.{layout_from, Holds};
 ghost use Rattle.surf_obj.specs.Refusals.{Refuses};
 
 use crate::layout::row_bytes;
@@ -16,11 +17,11 @@ pub enum SurfRefusal {
     Short { needed: u64, got: u64 },
 }
 
-/// Why so many bytes cannot be a surface, or `None` where they can.
+/// Why so many bytes cannot be a surface, or `None` where they can, from either end.
 pub fn refusal_of(len: usize, size: Size, format: Format, stride: u32) -> Option<SurfRefusal>
     requires { HasSides size }
     ensures some { IfSome result (Refuses size format stride len) }
-    ensures none { IfNone result (HoldsRows size format stride len) }
+    ensures none { IfNone result ((bottom_up : Bool) → Holds (layout_from size format stride bottom_up) len) }
 {
     let least = row_bytes(format, size.w);
     if stride < least {

@@ -2,12 +2,12 @@
 
 ghost use Rattle.std.specs.Prelude.{◌≡◌, ◌≤◌, ◌<◌, ◌+◌, ◌*◌, ◌/◌, ◌%◌, ◌^◌, ℕ, All, length, slice_index};
 ghost use Rattle.pix_format.specs.Value.{bits_of};
-ghost use Rattle.pix_format.specs.declared.format.Format.TheVariants.{B1, B4, B8, B555, B565, B24, B32};
+ghost use Rattle.pix_format.specs.declared.format.Format.TheVariants.{B1, B4};
 ghost use Rattle.surf_obj.specs.Layout.{row_bytes, pixel_in};
-ghost use Rattle.surf_obj.specs.Bytes.{ChangesOnly};
+ghost use Rattle.surf_obj.specs.InnerBytes.{ChangesOnly};
 
 use crate::bytes::{bits_of_byte, byte_of_bits};
-use crate::words::{get16, get24, get32, put16, put24, put32};
+use crate::units::{Four, One, Three, Two, WholeBytes};
 use pix_format::Format;
 
 /// Reads the values of pixels.
@@ -20,10 +20,10 @@ pub fn read_values(bits: &[u8], at: usize, format: Format, out: &mut [u32])
     match format {
         Format::B1 => read_bits(bits, at, out),
         Format::B4 => read_halves(bits, at, out),
-        Format::B8 => read_bytes(bits, at, out),
-        Format::B555 | Format::B565 => read_pairs(bits, at, out),
-        Format::B24 => read_triples(bits, at, out),
-        Format::B32 => read_quads(bits, at, out),
+        Format::B8 => read_units::<One>(bits, at, out),
+        Format::B555 | Format::B565 => read_units::<Two>(bits, at, out),
+        Format::B24 => read_units::<Three>(bits, at, out),
+        Format::B32 => read_units::<Four>(bits, at, out),
     }
 }
 
@@ -38,10 +38,28 @@ pub fn write_values(bits: &mut [u8], at: usize, format: Format, values: &[u32])
     match format {
         Format::B1 => write_bits(bits, at, values),
         Format::B4 => write_halves(bits, at, values),
-        Format::B8 => write_bytes(bits, at, values),
-        Format::B555 | Format::B565 => write_pairs(bits, at, values),
-        Format::B24 => write_triples(bits, at, values),
-        Format::B32 => write_quads(bits, at, values),
+        Format::B8 => write_units::<One>(bits, at, values),
+        Format::B555 | Format::B565 => write_units::<Two>(bits, at, values),
+        Format::B24 => write_units::<Three>(bits, at, values),
+        Format::B32 => write_units::<Four>(bits, at, values),
+    }
+}
+
+/// Writes one value to pixels.
+pub fn fill_values(bits: &mut [u8], at: usize, format: Format, count: usize, value: u32)
+    requires whole { count * bits_of format % 8 ≡ 0 }
+    requires room { at + row_bytes format count ≤ length bits.old }
+    requires fits { value < 2 ^ bits_of format }
+    ensures values { (k : ℕ) → k < count → pixel_in format bits.new at k ≡ value }
+    ensures bytes { ChangesOnly at (at + row_bytes format count) bits.old bits.new }
+{
+    match format {
+        Format::B1 => fill_bits(bits, at, count, value),
+        Format::B4 => fill_halves(bits, at, count, value),
+        Format::B8 => fill_bytes(bits, at, count, value as u8),
+        Format::B555 | Format::B565 => fill_units::<Two>(bits, at, count, value),
+        Format::B24 => fill_units::<Three>(bits, at, count, value),
+        Format::B32 => fill_units::<Four>(bits, at, count, value),
     }
 }
 
@@ -91,81 +109,62 @@ fn write_halves(bits: &mut [u8], at: usize, values: &[u32])
     }
 }
 
-fn read_bytes(bits: &[u8], at: usize, out: &mut [u32])
-    requires { at + length out.old ≤ length bits.now }
-    ensures { (k : ℕ) → k < length out.old → slice_index out.new k ≡ pixel_in B8 bits.now at k }
+fn fill_bytes(bits: &mut [u8], at: usize, count: usize, value: u8)
+    requires { at + count ≤ length bits.old }
+    ensures values { (k : ℕ) → k < count → slice_index bits.new (at + k) ≡ value }
+    ensures bytes { ChangesOnly at (at + count) bits.old bits.new }
+{
+    bits[at..at + count].fill(value);
+}
+
+fn fill_bits(bits: &mut [u8], at: usize, count: usize, value: u32)
+    requires whole { count % 8 ≡ 0 }
+    requires room { 8 * at + count ≤ 8 * length bits.old }
+    requires fits { value < 2 }
+    ensures values { (k : ℕ) → k < count → pixel_in B1 bits.new at k ≡ value }
+    ensures bytes { ChangesOnly at (at + count / 8) bits.old bits.new }
+{
+    fill_bytes(bits, at, count / 8, (value * 255) as u8);
+}
+
+fn fill_halves(bits: &mut [u8], at: usize, count: usize, value: u32)
+    requires whole { count % 2 ≡ 0 }
+    requires room { 2 * at + count ≤ 2 * length bits.old }
+    requires fits { value < 16 }
+    ensures values { (k : ℕ) → k < count → pixel_in B4 bits.new at k ≡ value }
+    ensures bytes { ChangesOnly at (at + count / 2) bits.old bits.new }
+{
+    fill_bytes(bits, at, count / 2, (value * 17) as u8);
+}
+
+fn read_units<U: WholeBytes>(bits: &[u8], at: usize, out: &mut [u32])
+    requires { at + row_bytes U.format (length out.old) ≤ length bits.now }
+    ensures values { (k : ℕ) → k < length out.old → slice_index out.new k ≡ pixel_in U.format bits.now at k }
+    ensures fits { All (λ v. v < 2 ^ bits_of U.format) out.new }
 {
     for i in 0..out.len() {
-        out[i] = bits[at + i] as u32;
+        out[i] = U::get(bits, at, i);
     }
 }
 
-fn write_bytes(bits: &mut [u8], at: usize, values: &[u32])
-    requires room { at + length values.now ≤ length bits.old }
-    requires fits { All (λ v. v < 256) values.now }
-    ensures values { (k : ℕ) → k < length values.now → pixel_in B8 bits.new at k ≡ slice_index values.now k }
-    ensures bytes { ChangesOnly at (at + length values.now) bits.old bits.new }
+fn write_units<U: WholeBytes>(bits: &mut [u8], at: usize, values: &[u32])
+    requires room { at + row_bytes U.format (length values.now) ≤ length bits.old }
+    requires fits { All (λ v. v < 2 ^ bits_of U.format) values.now }
+    ensures values { (k : ℕ) → k < length values.now → pixel_in U.format bits.new at k ≡ slice_index values.now k }
+    ensures bytes { ChangesOnly at (at + row_bytes U.format (length values.now)) bits.old bits.new }
 {
     for i in 0..values.len() {
-        bits[at + i] = values[i] as u8;
+        U::put(bits, at, i, values[i]);
     }
 }
 
-fn read_pairs(bits: &[u8], at: usize, out: &mut [u32])
-    requires { at + 2 * length out.old ≤ length bits.now }
-    ensures { (k : ℕ) → k < length out.old → slice_index out.new k ≡ pixel_in B555 bits.now at k }
+fn fill_units<U: WholeBytes>(bits: &mut [u8], at: usize, count: usize, value: u32)
+    requires room { at + row_bytes U.format count ≤ length bits.old }
+    requires fits { value < 2 ^ bits_of U.format }
+    ensures values { (k : ℕ) → k < count → pixel_in U.format bits.new at k ≡ value }
+    ensures bytes { ChangesOnly at (at + row_bytes U.format count) bits.old bits.new }
 {
-    for i in 0..out.len() {
-        out[i] = get16(bits, at + 2 * i) as u32;
-    }
-}
-
-fn write_pairs(bits: &mut [u8], at: usize, values: &[u32])
-    requires room { at + 2 * length values.now ≤ length bits.old }
-    requires fits { All (λ v. v < 65536) values.now }
-    ensures values { (k : ℕ) → k < length values.now → pixel_in B555 bits.new at k ≡ slice_index values.now k }
-    ensures bytes { ChangesOnly at (at + 2 * length values.now) bits.old bits.new }
-{
-    for i in 0..values.len() {
-        put16(bits, at + 2 * i, values[i] as u16);
-    }
-}
-
-fn read_triples(bits: &[u8], at: usize, out: &mut [u32])
-    requires { at + 3 * length out.old ≤ length bits.now }
-    ensures { (k : ℕ) → k < length out.old → slice_index out.new k ≡ pixel_in B24 bits.now at k }
-{
-    for i in 0..out.len() {
-        out[i] = get24(bits, at + 3 * i);
-    }
-}
-
-fn write_triples(bits: &mut [u8], at: usize, values: &[u32])
-    requires room { at + 3 * length values.now ≤ length bits.old }
-    requires fits { All (λ v. v < 16777216) values.now }
-    ensures values { (k : ℕ) → k < length values.now → pixel_in B24 bits.new at k ≡ slice_index values.now k }
-    ensures bytes { ChangesOnly at (at + 3 * length values.now) bits.old bits.new }
-{
-    for i in 0..values.len() {
-        put24(bits, at + 3 * i, values[i]);
-    }
-}
-
-fn read_quads(bits: &[u8], at: usize, out: &mut [u32])
-    requires { at + 4 * length out.old ≤ length bits.now }
-    ensures { (k : ℕ) → k < length out.old → slice_index out.new k ≡ pixel_in B32 bits.now at k }
-{
-    for i in 0..out.len() {
-        out[i] = get32(bits, at + 4 * i);
-    }
-}
-
-fn write_quads(bits: &mut [u8], at: usize, values: &[u32])
-    requires { at + 4 * length values.now ≤ length bits.old }
-    ensures values { (k : ℕ) → k < length values.now → pixel_in B32 bits.new at k ≡ slice_index values.now k }
-    ensures bytes { ChangesOnly at (at + 4 * length values.now) bits.old bits.new }
-{
-    for i in 0..values.len() {
-        put32(bits, at + 4 * i, values[i]);
+    for i in 0..count {
+        U::put(bits, at, i, value);
     }
 }

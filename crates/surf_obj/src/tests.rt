@@ -2,7 +2,6 @@
 
 ghost use Rattle.std.specs.Prelude.{◌≤◌, ◌<◌, ◌+◌, ◌^◌, All, length};
 ghost use Rattle.pix_format.specs.Value.{bits_of};
-ghost use Rattle.surf_obj.specs.Layout.{row_bytes};
 
 use super::*;
 use geom_base::{Point, Size};
@@ -14,10 +13,27 @@ const ORIGIN: Point = Point { x: 0, y: 0 };
 
 const ELEVEN: Size = Size { w: 11, h: 1 };
 
+const FORMATS: [(Format, usize); 7] = [
+    (Format::B1, 1),
+    (Format::B4, 4),
+    (Format::B8, 8),
+    (Format::B555, 16),
+    (Format::B565, 16),
+    (Format::B24, 24),
+    (Format::B32, 32),
+];
+
 const THREE: Size = Size { w: 3, h: 1 };
 
-fn reads(rt: &impl Abort, format: Format, bytes: &[u8], want: [u32; 3]) {
-    match LentView::over(bytes, THREE, format, 12, false) {
+const DRAWN: [u8; 24] = [
+    1, 0, 0, 2, 0, 0, 0, 0, 0, 0, 0, 0, 0, 0, 0, 5, 0, 0, 3, 2, 1, 0, 0, 0,
+];
+
+/// Reads three pixels of a row that takes all the bytes.
+fn reads(rt: &impl Abort, format: Format, bytes: &[u8], want: [u32; 3])
+    requires { length bytes.now ≤ 12 }
+{
+    match LentView::over(bytes, THREE, format, bytes.len() as u32, false) {
         Err(_) => panic!(rt; "refused"),
         Ok(view) => {
             let mut out = [0u32; 3];
@@ -30,99 +46,77 @@ fn reads(rt: &impl Abort, format: Format, bytes: &[u8], want: [u32; 3]) {
 
 #[test]
 fn each_format_is_read_from_its_bytes(rt: HostRuntime) {
-    reads(
-        &rt,
-        Format::B1,
-        &[0xa0, 0, 0, 0, 0, 0, 0, 0, 0, 0, 0, 0],
-        [1, 0, 1],
-    );
-    reads(
-        &rt,
-        Format::B4,
-        &[0x12, 0x3f, 0, 0, 0, 0, 0, 0, 0, 0, 0, 0],
-        [1, 2, 3],
-    );
-    reads(
-        &rt,
-        Format::B8,
-        &[1, 2, 3, 0, 0, 0, 0, 0, 0, 0, 0, 0],
-        [1, 2, 3],
-    );
-    reads(
-        &rt,
-        Format::B555,
-        &[0x34, 0x12, 0, 0x80, 1, 0, 0, 0, 0, 0, 0, 0],
-        [0x1234, 0x8000, 1],
-    );
-    reads(
-        &rt,
-        Format::B565,
-        &[0x34, 0x12, 0, 0x80, 1, 0, 0, 0, 0, 0, 0, 0],
-        [0x1234, 0x8000, 1],
-    );
-    reads(
-        &rt,
-        Format::B24,
-        &[0x33, 0x22, 0x11, 0xff, 0, 0, 0, 0, 0xff, 0, 0, 0],
-        [0x112233, 0x0000ff, 0xff0000],
-    );
-    reads(
-        &rt,
-        Format::B32,
-        &[0x78, 0x56, 0x34, 0x12, 0, 0, 0, 0x80, 1, 0, 0, 0],
-        [0x12345678, 0x80000000, 1],
-    );
+    reads(&rt, Format::B1, &[0xa0], [1, 0, 1]);
+    reads(&rt, Format::B4, &[0x12, 0x3f], [1, 2, 3]);
+    reads(&rt, Format::B8, &[1, 2, 3], [1, 2, 3]);
+    let pairs = [0x34, 0x12, 0, 0x80, 1, 0];
+    reads(&rt, Format::B555, &pairs, [0x1234, 0x8000, 1]);
+    reads(&rt, Format::B565, &pairs, [0x1234, 0x8000, 1]);
+    let triples = [0x33, 0x22, 0x11, 0xff, 0, 0, 0, 0, 0xff];
+    reads(&rt, Format::B24, &triples, [0x112233, 0xff, 0xff0000]);
+    let quads = [0x78, 0x56, 0x34, 0x12, 0, 0, 0, 0x80, 1, 0, 0, 0];
+    reads(&rt, Format::B32, &quads, [0x12345678, 0x80000000, 1]);
 }
 
-fn writes(rt: &impl Abort, format: Format, values: [u32; 3], want: [u8; 12])
-    requires { All (λ v. v < 2 ^ bits_of format) values }
+/// Draws through `over`: the first bytes are then these, and all others stay.
+fn writes(rt: &impl Abort, format: Format, values: [u32; 3], want: &[u8])
+    requires fits { All (λ v. v < 2 ^ bits_of format) values }
+    requires some { length want.now ≤ 12 }
 {
     let mut bytes = [0xffu8; 12];
-    let mut surface = LentSurf::on(&mut bytes, THREE, format, 12, false);
-    surface.write_row(ORIGIN, &values);
-    assert_eq!(rt; bytes, want);
+    match LentSurf::over(&mut bytes, THREE, format, 12, false) {
+        Err(_) => panic!(rt; "refused"),
+        Ok(mut surface) => surface.write_row(ORIGIN, &values),
+    }
+    assert_eq!(rt; &bytes[..want.len()], want);
+    assert!(rt; bytes[want.len()..].iter().all(|byte| *byte == 0xff));
 }
 
 #[test]
 fn padding_stays_where_values_are_written(rt: HostRuntime) {
-    let ff = 0xff;
-    writes(
-        &rt,
-        Format::B1,
-        [0, 1, 0],
-        [0x5f, ff, ff, ff, ff, ff, ff, ff, ff, ff, ff, ff],
+    writes(&rt, Format::B1, [0, 1, 0], &[0x5f]);
+    writes(&rt, Format::B4, [1, 2, 3], &[0x12, 0x3f]);
+    writes(&rt, Format::B8, [1, 2, 3], &[1, 2, 3]);
+    let pairs = [0x34, 0x12, 0, 0x80, 1, 0];
+    writes(&rt, Format::B565, [0x1234, 0x8000, 1], &pairs);
+    let triples = [0x33, 0x22, 0x11, 0xff, 0, 0, 0, 0, 0xff];
+    writes(&rt, Format::B24, [0x112233, 0xff, 0xff0000], &triples);
+    let quads = [0x78, 0x56, 0x34, 0x12, 0, 0, 0, 0, 1, 0, 0, 0];
+    writes(&rt, Format::B32, [0x12345678, 0, 1], &quads);
+}
+
+#[test]
+fn bytes_that_are_refused_stay(rt: HostRuntime) {
+    let mut bytes = [7u8; 10];
+    let size = Size { w: 3, h: 3 };
+    let short = LentSurf::over(&mut bytes, size, Format::B8, 4, false).is_err();
+    let narrow = LentSurf::over(&mut bytes, size, Format::B8, 2, true).is_err();
+    assert!(rt; short && narrow);
+    assert_eq!(rt; bytes, [7; 10]);
+}
+
+#[test]
+fn rows_of_a_surface_are_drawn_on_alone(rt: HostRuntime) {
+    let size = Size { w: 2, h: 3 };
+    let mut bytes = [1u8, 2, 99, 3, 4, 99, 5, 6, 99, 99];
+    let mut rows = LentSurf::on(&mut bytes, Layout::new(size, Format::B8, 3, false)).into_rows(
+        1, 1,
     );
-    writes(
-        &rt,
-        Format::B4,
-        [1, 2, 3],
-        [0x12, 0x3f, ff, ff, ff, ff, ff, ff, ff, ff, ff, ff],
-    );
-    writes(
-        &rt,
-        Format::B8,
-        [1, 2, 3],
-        [1, 2, 3, ff, ff, ff, ff, ff, ff, ff, ff, ff],
-    );
-    writes(
-        &rt,
-        Format::B24,
-        [0x112233, 255, 0xff0000],
-        [0x33, 0x22, 0x11, ff, 0, 0, 0, 0, ff, ff, ff, ff],
-    );
-    writes(
-        &rt,
-        Format::B32,
-        [0x12345678, 0, 1],
-        [0x78, 0x56, 0x34, 0x12, 0, 0, 0, 0, 1, 0, 0, 0],
-    );
+    assert_eq!(rt; rows.get(Point { x: 1, y: 0 }), 4);
+    rows.fill_row(ORIGIN, 2, 8);
+    assert_eq!(rt; bytes, [1, 2, 99, 8, 8, 99, 5, 6, 99, 99]);
+    let mut rows = LentSurf::on(&mut bytes, Layout::new(size, Format::B8, 3, true)).into_rows(0, 2);
+    assert_eq!(rt; rows.scan0(), 6);
+    rows.set(Point { x: 0, y: 0 }, 10);
+    rows.write_row(Point { x: 0, y: 1 }, &[11, 12]);
+    assert_eq!(rt; bytes, [1, 2, 99, 11, 12, 99, 10, 6, 99, 99]);
 }
 
 #[test]
 fn the_lowest_row_is_first_from_the_bottom_up(rt: HostRuntime) {
     let mut bytes = [1, 2, 0, 0, 3, 4, 0, 0, 5, 6, 0, 0];
     let size = Size { w: 2, h: 3 };
-    let mut surface = LentSurf::on(&mut bytes, size, Format::B8, 4, true);
+    let mut surface = LentSurf::on(&mut bytes, Layout::new(size, Format::B8, 4, true));
     assert_eq!(rt; surface.scan0(), 8);
     assert_eq!(rt; surface.delta(), -4);
     assert_eq!(rt; surface.get(ORIGIN), 5);
@@ -152,17 +146,21 @@ fn a_stride_is_refused_before_a_length(rt: HostRuntime) {
 fn a_new_surface_is_blank_and_its_rows_are_padded(rt: HostRuntime) -> Result<(), Fail> {
     let size = Size { w: 3, h: 2 };
     let mut surface = SurfObj::new(rt.alloc(), size, Format::B24)?;
-    assert_eq!(rt; surface.stride(), 12);
-    assert_eq!(rt; surface.pixel(2, 1), 0);
-    surface.set_pixel(2, 1, 0x010203);
-    surface.write_run(0, 0, &[1, 2]);
-    surface.fill_run(1, 1, 1, 5);
+    assert_eq!(rt; surface.layout(), Layout::new(size, Format::B24, 12, false));
+    assert_eq!(rt; surface.bits(), [0u8; 24].as_slice());
+    {
+        let mut lent = surface.lend();
+        lent.set(Point { x: 2, y: 1 }, 0x010203);
+        lent.write_row(ORIGIN, &[1, 2]);
+        lent.fill_row(Point { x: 1, y: 1 }, 1, 5);
+    }
+    assert_eq!(rt; surface.bits(), DRAWN.as_slice());
     let mut row = [0; 3];
-    surface.read_run(0, 1, &mut row);
+    surface.view().read_row(Point { x: 0, y: 1 }, &mut row);
     assert_eq!(rt; row, [0, 5, 0x010203]);
     assert_eq!(rt; surface.view().get(Point { x: 1, y: 0 }), 2);
-    surface.lend().set(ORIGIN, 4);
-    assert_eq!(rt; surface.bits().len(), 24);
+    surface.bits_mut()[3] = 4;
+    assert_eq!(rt; surface.view().get(Point { x: 1, y: 0 }), 4);
     Ok(())
 }
 
@@ -211,47 +209,48 @@ fn sample(format: Format) -> [u32; 11]
     }
 }
 
-/// Writes a run of a row of eleven pixels, and compares the bytes with those of the plain way, and what is read.
+/// Writes a run of a row of eleven pixels, and copies it from another row: the bytes are those of the plain way, and what is read
+/// is what was written.
 fn aligned(rt: &impl Abort, format: Format, depth: usize, x: u32, count: usize)
     requires depth { depth ≤ 32 }
     requires run { x + count ≤ 11 }
 {
     let values = sample(format);
-    let mut bytes = [0x5au8; 44];
-    let mut plain = [0x5au8; 44];
+    let part = &values[x as usize..x as usize + count];
+    let at = Point::at(x, 0);
+    let layout = Layout::new(ELEVEN, format, 44, false);
     let mut read = [0u32; 11];
+    let mut bytes = [0x5au8; 44];
     {
-        let mut surface = LentSurf::on(&mut bytes, ELEVEN, format, 44, false);
-        surface.write_run(x, 0, &values[..count]);
-        surface.read_run(x, 0, &mut read[..count]);
+        let mut surface = LentSurf::on(&mut bytes, layout);
+        surface.write_row(at, part);
+        surface.read_row(at, &mut read[..count]);
     }
+    let mut picture = [0xa5u8; 44];
+    LentSurf::on(&mut picture, layout).write_row(ORIGIN, &values);
+    let mut copied = [0x5au8; 44];
+    let source = LentView::on(&picture, layout);
+    LentSurf::on(&mut copied, layout).copy_row(at, count, &source, at);
+    let mut plain = [0x5au8; 44];
     for i in 0..count {
-        put_plainly(&mut plain, depth, x as usize + i, values[i]);
+        put_plainly(&mut plain, depth, x as usize + i, part[i]);
     }
     assert_eq!(rt;
         bytes.as_slice(),
         plain.as_slice(),
-        "{format:?} from {x}, {count} pixels"
+        "{format:?} from {x}, {count}"
     );
     assert_eq!(rt;
-        &read[..count],
-        &values[..count],
-        "{format:?} from {x}, {count} pixels"
+        copied.as_slice(),
+        plain.as_slice(),
+        "{format:?} from {x}, {count}"
     );
+    assert_eq!(rt; &read[..count], part, "{format:?} from {x}, {count}");
 }
 
 #[test]
 fn every_alignment_of_a_short_row(rt: HostRuntime) {
-    let formats = [
-        (Format::B1, 1),
-        (Format::B4, 4),
-        (Format::B8, 8),
-        (Format::B555, 16),
-        (Format::B565, 16),
-        (Format::B24, 24),
-        (Format::B32, 32),
-    ];
-    for (format, depth) in formats {
+    for (format, depth) in FORMATS {
         for x in 0..11 {
             for count in 0..12 - x {
                 aligned(&rt, format, depth, x, count as usize);
@@ -260,58 +259,11 @@ fn every_alignment_of_a_short_row(rt: HostRuntime) {
     }
 }
 
-/// Copies a run of a row of eleven pixels to the same columns, and compares the bytes with those of values written.
-fn copies(rt: &impl Abort, format: Format, x: u32, count: usize)
-    requires { x + count ≤ 11 }
-{
-    let values = sample(format);
-    let mut picture = [0xa5u8; 44];
-    let mut bytes = [0x5au8; 44];
-    let mut plain = [0x5au8; 44];
-    {
-        let mut surface = LentSurf::on(&mut picture, ELEVEN, format, 44, false);
-        surface.write_run(0, 0, &values);
-    }
-    let source = LentView::on(&picture, ELEVEN, format, 44, false);
-    {
-        let mut surface = LentSurf::on(&mut bytes, ELEVEN, format, 44, false);
-        surface.copy_run(x, 0, count, &source, x, 0);
-    }
-    {
-        let mut surface = LentSurf::on(&mut plain, ELEVEN, format, 44, false);
-        surface.write_run(x, 0, &values[x as usize..x as usize + count]);
-    }
-    assert_eq!(rt;
-        bytes.as_slice(),
-        plain.as_slice(),
-        "{format:?} from {x}, {count} pixels"
-    );
-}
-
-#[test]
-fn every_part_of_a_short_row_is_copied(rt: HostRuntime) {
-    let formats = [
-        Format::B1,
-        Format::B4,
-        Format::B8,
-        Format::B565,
-        Format::B24,
-        Format::B32,
-    ];
-    for format in formats {
-        for x in 0..11 {
-            for count in 0..12 - x {
-                copies(&rt, format, x, count as usize);
-            }
-        }
-    }
-}
-
 #[test]
 fn runs_move_within_a_row(rt: HostRuntime) {
     let mut bytes = [1, 2, 3, 4, 5, 6, 7, 8, 9, 10, 11];
-    let mut surface = LentSurf::on(&mut bytes, ELEVEN, Format::B8, 11, false);
-    surface.move_run(2, 0, 5, 0, 0);
-    surface.move_run(0, 0, 3, 4, 0);
+    let mut surface = LentSurf::on(&mut bytes, Layout::new(ELEVEN, Format::B8, 11, false));
+    surface.move_row(Point { x: 2, y: 0 }, 5, ORIGIN);
+    surface.move_row(ORIGIN, 3, Point { x: 4, y: 0 });
     assert_eq!(rt; bytes, [3, 4, 5, 2, 3, 4, 5, 8, 9, 10, 11]);
 }

@@ -21,6 +21,8 @@ loop-filled-preserved c =
     ] in
     record {
       start = let s = c.loop-filled.invariant.start in omega arith;
-      place = rw c.copy_within.ensures.len (whole_after c.loop-filled.filled c.min-count.result (length c.loop-filled.row) c.args.period whole c.min-count.ensures);
-      done = λ k below inside. repeated_more c.args.row.now c.loop-filled.row c.copy_within.new.self c.args.period c.loop-filled.filled c.min-count.result whole count (omega arith) c.loop-filled.invariant.done copied.0 copied.1 k below;
+      place = rw c.copy_within.ensures.len
+          (whole_after c.loop-filled.filled c.min-count.result (length c.loop-filled.row) c.args.period whole c.min-count.ensures);
+      done = λ k below inside. repeated_more c.args.row.now c.loop-filled.row c.copy_within.new.self c.args.period c.loop-filled.filled c.min-count.result
+          whole count (omega arith) c.loop-filled.invariant.done copied.0 copied.1 k below;
     }

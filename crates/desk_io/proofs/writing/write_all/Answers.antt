@@ -10,4 +10,5 @@ returns-in_err-done g c =
     rw p.1 (put_stop c.args.bytes.now _ _ _ _ _ _ c.loop-done.done c.in_err-done.field-0.0 c.loop-done.invariant c.in_err-done.ensures)
 
 pub loop-done-preserved : goal.loop-done-preserved
-loop-done-preserved g c = put_more c.args.bytes.now _ _ _ _ _ _ c.loop-done.done c.in_ok-done.field-0 c.loop-done.invariant (grind (arith, common_steps, c.in_ok-done.ensures.some)) c.in_ok-done.ensures
+loop-done-preserved g c = put_more c.args.bytes.now _ _ _ _ _ _ c.loop-done.done c.in_ok-done.field-0 c.loop-done.invariant
+    (grind (arith, common_steps, c.in_ok-done.ensures.some)) c.in_ok-done.ensures

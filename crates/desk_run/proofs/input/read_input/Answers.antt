@@ -1,5 +1,5 @@
 use Rattle.std.proofs.Common.{arith}
-use Rattle.script_words.proofs.FindLemmas.{room_behind}
+use Rattle.script_words.specs.LineLaws.{room_behind}
 use Rattle.desk_run.proofs.input.read_input.Goals as goal
 
 pub read_lines-requires : goal.read_lines-requires

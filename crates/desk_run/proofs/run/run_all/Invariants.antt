@@ -1,5 +1,5 @@
 use Rattle.std.proofs.Common.{◌≡◌, length, List}
-use Rattle.desk_run.specs.Rows.{longest_line, widest_row}
+use Rattle.desk_run.specs.InnerRows.{longest_line, widest_row}
 use Rattle.desk_run.specs.Run.{Entry}
 use Rattle.desk_run.proofs.HistoryLemmas.{SoFar}
 use Rattle.desk_run.proofs.run.run_all.Given as goal
@@ -8,5 +8,6 @@ abbrev pub invariant-loop-i : goal.invariant-loop-i
 invariant-loop-i g l = record {
   values : length l.values ≡ widest_row;
   line : length l.line ≡ longest_line;
-  so_far : (h : List Entry) × SoFar l.script.names l.commands l.fn.desk l.desk (g.K.Sink.written l.fn.sink) (g.K.Sink.written l.sink) (g.K.Sink.faults l.fn.sink) (g.K.Sink.faults l.sink) l.i l.whole h;
+  so_far : (h : List Entry) × SoFar l.script.names l.commands l.fn.desk l.desk (g.K.Sink.written l.fn.sink) (g.K.Sink.written l.sink)
+      (g.K.Sink.faults l.fn.sink) (g.K.Sink.faults l.sink) l.i l.whole h;
 }

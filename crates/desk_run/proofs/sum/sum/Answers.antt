@@ -1,6 +1,6 @@
 use Rattle.std.proofs.Common.{◌≡◌, ◌∙◌, ◌*◌, arith, ap, refl}
 use Rattle.desk_run.specs.Texts.{sum_of}
-use Rattle.desk_run.proofs.RunLemmas.{sum_more, all_rows}
+use Rattle.desk_run.proofs.RowLemmas.{sum_more, all_rows}
 use Rattle.desk_run.proofs.sum.sum.Goals as goal
 
 pub loop-y-init : goal.loop-y-init
@@ -20,4 +20,6 @@ loop-y-preserved c =
 pub returns : goal.returns
 returns c =
     let now = c.args.canvas.now in
-    c.loop-y.invariant.sum ∙ ap sum_of (all_rows now.size.w now.size.h c.loop-y.y now.values (rw c.size-y-end.ensures.size at c.size-y-end.ensures.places) (rw c.size-y-end.ensures.size at c.loop-y-test.false))
+    c.loop-y.invariant.sum ∙ ap sum_of
+    (all_rows now.size.w now.size.h c.loop-y.y now.values (rw c.size-y-end.ensures.size at c.size-y-end.ensures.places)
+    (rw c.size-y-end.ensures.size at c.loop-y-test.false))

@@ -11,7 +11,8 @@ loop-i-init c = IsLeast-none c.args.table.now c.args.colour _ (ap (λ d. d * 256
 pub loop-i-preserved : goal.loop-i-preserved
 loop-i-preserved c =
     let entry = get_or c.args.table.now c.loop-i.i black in
-    let more = IsLeast-more c.args.table.now c.args.colour c.loop-i.i c.loop-i.best (distance entry c.args.colour) c.loop-i-test.true (omega arith) c.loop-i.invariant refl in
+    let more = IsLeast-more c.args.table.now c.args.colour c.loop-i.i c.loop-i.best (distance entry c.args.colour) c.loop-i-test.true
+    (omega arith) c.loop-i.invariant refl in
     elim c.if-red_distance-best.branch [
       | then-red_distance-best w ↦ rw (w.best-is, w.min-best.ensures, w.distance.ensures.value) more
       | else-red_distance-best w ↦ rw (w.best-is) (subst (λ b. IsLeast c.args.table.now c.args.colour (c.loop-i.i + 1) b) (omega arith) more)

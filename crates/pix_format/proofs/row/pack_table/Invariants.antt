@@ -1,6 +1,6 @@
 use Rattle.std.proofs.Common.{◌≡◌, ℕ, ◌<◌, ◌≤◌, get_or}
 use Rattle.pix_format.specs.Colour.{nearest}
-use Rattle.pix_format.specs.Kept.{KeepsNearest}
+use Rattle.pix_format.specs.InnerKept.{KeepsNearest}
 use Rattle.pix_format.specs.Packing.{unpacked888}
 use Rattle.pix_format.proofs.row.pack_table.Given as goal
 

@@ -5,4 +5,6 @@ use Rattle.region.proofs.band.push_row.Goals as goal
 
 pub returns : goal.returns
 returns c =
-    sym (append-nil c.loop-rest.out.items) ∙ ap (λ u. c.loop-rest.out.items ++ u) (sym (row_end c.args.band.now.from c.args.next.now.from c.loop-rest.rest.now c.in_default.len_below)) ∙ c.loop-rest.invariant
+    sym (append-nil c.loop-rest.out.items)
+    ∙ ap (λ u. c.loop-rest.out.items ++ u) (sym (row_end c.args.band.now.from c.args.next.now.from c.loop-rest.rest.now c.in_default.len_below))
+    ∙ c.loop-rest.invariant

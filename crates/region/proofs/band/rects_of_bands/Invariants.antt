@@ -1,5 +1,5 @@
 use Rattle.std.proofs.Common.{◌≡◌, ◌++◌, length}
-use Rattle.region.specs.Columns.{columns_of}
+use Rattle.region.specs.InnerColumns.{columns_of}
 use Rattle.region.specs.Band.{rects_of}
 use Rattle.region.proofs.band.rects_of_bands.Given as goal
 

@@ -1,5 +1,5 @@
 use Rattle.std.proofs.Common.{length}
-use Rattle.region.specs.Scan.{AreBeginning}
+use Rattle.region.specs.InnerScan.{AreBeginning}
 use Rattle.region.proofs.scan.add_first.Given as goal
 
 abbrev pub invariant-loop-rest : goal.invariant-loop-rest

@@ -1,6 +1,6 @@
 use Rattle.std.proofs.Common.{take}
 use Rattle.std.specs.List.{All}
-use Rattle.region.specs.Scan.{HasBothEdges}
+use Rattle.region.specs.InnerScan.{HasBothEdges}
 use Rattle.region.proofs.scan.edges_of.Given as goal
 
 abbrev pub invariant-loop-rect : goal.invariant-loop-rect

@@ -3,8 +3,8 @@ use Rattle.std.proofs.lemmas.Int.{to_z-of_z}
 use Rattle.std.proofs.lemmas.Bool.{false≢true}
 use Rattle.std.specs.List.{All}
 use Rattle.geom_base.specs.Points.{no_rect}
-use Rattle.region.specs.Edges.{IsOver}
-use Rattle.region.specs.Scan.{IsNextRow, HasBothEdges, IsScannedInto}
+use Rattle.region.specs.InnerEdges.{IsOver}
+use Rattle.region.specs.InnerScan.{IsNextRow, HasBothEdges, IsScannedInto}
 use Rattle.region.proofs.ScanTurnLemmas.{turn_of, first_edges, into_none, into_seen, into_same, into_new, into_room, into_falls, into_all}
 use Rattle.region.proofs.scan.scanned_bands.Goals as goal
 
@@ -25,7 +25,8 @@ loop-next-init c =
     let row = to_z-of_z w32 top fits ∙ ap (λ l. (get_or l 0 no_rect).top) c.as_slice.ensures.value in
     let over = subst (λ l. IsOver l c.in_ok-cover.cover) c.deref-2.ensures.value c.in_ok-cover.ensures in
     subst (λ l. IsScannedInto c.args.rects.now (to_z w32 (of_z w32 top)) c.in_ok-cover.cover l c.new-bands.result) (sym c.as_slice-rest.ensures.value)
-    (into_none c.args.rects.now sorted c.in_ok-edges.edges.items c.in_ok-cover.cover c.new-bands.result (to_z w32 (of_z w32 top)) some row c.in_ok-sorted.ensures over both c.new-bands.ensures.bands c.new-bands.ensures.count)
+    (into_none c.args.rects.now sorted c.in_ok-edges.edges.items c.in_ok-cover.cover c.new-bands.result
+    (to_z w32 (of_z w32 top)) some row c.in_ok-sorted.ensures over both c.new-bands.ensures.bands c.new-bands.ensures.count)
 
 pub go_to-requires : goal.go_to-requires
 go_to-requires c =
@@ -33,7 +34,8 @@ go_to-requires c =
     let p = to_z w32 (of_z w32 c.in-Some.next) in
     let fits : SFits w32 c.in-Some.next = search rules in
     let next = subst (IsNextRow c.strip.result.now.steady c.loop-next.rest.now) (sym (to_z-of_z w32 c.in-Some.next fits)) c.in-Some.ensures in
-    into_seen c.args.rects.now z p c.loop-next.cover c.add_first-rest.new.cover c.loop-next.rest.now c.add_first-rest.result.now c.loop-next.bands c.strip.result.now c.loop-next.invariant c.strip.ensures next c.add_first-rest.ensures
+    into_seen c.args.rects.now z p c.loop-next.cover c.add_first-rest.new.cover c.loop-next.rest.now c.add_first-rest.result.now c.loop-next.bands
+    c.strip.result.now c.loop-next.invariant c.strip.ensures next c.add_first-rest.ensures
 
 pub loop-next-smaller-then-are_equal : goal.loop-next-smaller-then-are_equal
 loop-next-smaller-then-are_equal c =
@@ -41,8 +43,10 @@ loop-next-smaller-then-are_equal c =
     let p = to_z w32 (of_z w32 c.in-Some.next) in
     let fits : SFits w32 c.in-Some.next = search rules in
     let next = subst (IsNextRow c.strip.result.now.steady c.loop-next.rest.now) (sym (to_z-of_z w32 c.in-Some.next fits)) c.in-Some.ensures in
-    let turn = turn_of z p c.loop-next.cover c.add_first-rest.new.cover c.go_to.new.self c.loop-next.rest.now c.add_first-rest.result.now c.strip.result.now c.strip.ensures next c.add_first-rest.ensures c.go_to.ensures in
-    into_falls c.args.rects.now z p c.loop-next.cover c.add_first-rest.new.cover c.go_to.new.self c.loop-next.rest.now c.add_first-rest.result.now c.loop-next.bands c.loop-next.invariant turn
+    let turn = turn_of z p c.loop-next.cover c.add_first-rest.new.cover c.go_to.new.self c.loop-next.rest.now c.add_first-rest.result.now c.strip.result.now
+    c.strip.ensures next c.add_first-rest.ensures c.go_to.ensures in
+    into_falls c.args.rects.now z p c.loop-next.cover c.add_first-rest.new.cover c.go_to.new.self c.loop-next.rest.now c.add_first-rest.result.now
+    c.loop-next.bands c.loop-next.invariant turn
 
 pub loop-next-preserved-then-are_equal : goal.loop-next-preserved-then-are_equal
 loop-next-preserved-then-are_equal c =
@@ -50,9 +54,12 @@ loop-next-preserved-then-are_equal c =
     let p = to_z w32 (of_z w32 c.in-Some.next) in
     let fits : SFits w32 c.in-Some.next = search rules in
     let next = subst (IsNextRow c.strip.result.now.steady c.loop-next.rest.now) (sym (to_z-of_z w32 c.in-Some.next fits)) c.in-Some.ensures in
-    let turn = turn_of z p c.loop-next.cover c.add_first-rest.new.cover c.go_to.new.self c.loop-next.rest.now c.add_first-rest.result.now c.strip.result.now c.strip.ensures next c.add_first-rest.ensures c.go_to.ensures in
+    let turn = turn_of z p c.loop-next.cover c.add_first-rest.new.cover c.go_to.new.self c.loop-next.rest.now c.add_first-rest.result.now c.strip.result.now
+    c.strip.ensures next c.add_first-rest.ensures c.go_to.ensures in
     let same = c.are_equal.ensures.0 c.if-are_equal.true in
-    into_same c.args.rects.now z p c.loop-next.cover c.add_first-rest.new.cover c.go_to.new.self c.loop-next.rest.now c.add_first-rest.result.now c.loop-next.bands c.strip-in-Some.result.now c.strip-in-Some-2.result.now c.strip-in-Some-3.result.now c.loop-next.invariant turn c.strip-in-Some.ensures c.strip-in-Some-2.ensures c.strip-in-Some-3.ensures same.0 same.1
+    into_same c.args.rects.now z p c.loop-next.cover c.add_first-rest.new.cover c.go_to.new.self c.loop-next.rest.now c.add_first-rest.result.now
+    c.loop-next.bands c.strip-in-Some.result.now c.strip-in-Some-2.result.now c.strip-in-Some-3.result.now c.loop-next.invariant turn
+    c.strip-in-Some.ensures c.strip-in-Some-2.ensures c.strip-in-Some-3.ensures same.0 same.1
 
 pub push_band-requires-clause-room : goal.push_band-requires-clause-room
 push_band-requires-clause-room c =
@@ -60,8 +67,10 @@ push_band-requires-clause-room c =
     let p = to_z w32 (of_z w32 c.in-Some.next) in
     let fits : SFits w32 c.in-Some.next = search rules in
     let next = subst (IsNextRow c.strip.result.now.steady c.loop-next.rest.now) (sym (to_z-of_z w32 c.in-Some.next fits)) c.in-Some.ensures in
-    let turn = turn_of z p c.loop-next.cover c.add_first-rest.new.cover c.go_to.new.self c.loop-next.rest.now c.add_first-rest.result.now c.strip.result.now c.strip.ensures next c.add_first-rest.ensures c.go_to.ensures in
-    into_room c.args.rects.now z p c.loop-next.cover c.add_first-rest.new.cover c.go_to.new.self c.loop-next.rest.now c.add_first-rest.result.now c.loop-next.bands c.loop-next.invariant turn
+    let turn = turn_of z p c.loop-next.cover c.add_first-rest.new.cover c.go_to.new.self c.loop-next.rest.now c.add_first-rest.result.now c.strip.result.now
+    c.strip.ensures next c.add_first-rest.ensures c.go_to.ensures in
+    into_room c.args.rects.now z p c.loop-next.cover c.add_first-rest.new.cover c.go_to.new.self c.loop-next.rest.now c.add_first-rest.result.now
+    c.loop-next.bands c.loop-next.invariant turn
 
 pub loop-next-smaller : goal.loop-next-smaller
 loop-next-smaller c =
@@ -69,8 +78,10 @@ loop-next-smaller c =
     let p = to_z w32 (of_z w32 c.in-Some.next) in
     let fits : SFits w32 c.in-Some.next = search rules in
     let next = subst (IsNextRow c.strip.result.now.steady c.loop-next.rest.now) (sym (to_z-of_z w32 c.in-Some.next fits)) c.in-Some.ensures in
-    let turn = turn_of z p c.loop-next.cover c.add_first-rest.new.cover c.go_to.new.self c.loop-next.rest.now c.add_first-rest.result.now c.strip.result.now c.strip.ensures next c.add_first-rest.ensures c.go_to.ensures in
-    into_falls c.args.rects.now z p c.loop-next.cover c.add_first-rest.new.cover c.go_to.new.self c.loop-next.rest.now c.add_first-rest.result.now c.loop-next.bands c.loop-next.invariant turn
+    let turn = turn_of z p c.loop-next.cover c.add_first-rest.new.cover c.go_to.new.self c.loop-next.rest.now c.add_first-rest.result.now c.strip.result.now
+    c.strip.ensures next c.add_first-rest.ensures c.go_to.ensures in
+    into_falls c.args.rects.now z p c.loop-next.cover c.add_first-rest.new.cover c.go_to.new.self c.loop-next.rest.now c.add_first-rest.result.now
+    c.loop-next.bands c.loop-next.invariant turn
 
 pub loop-next-preserved : goal.loop-next-preserved
 loop-next-preserved c =
@@ -78,8 +89,11 @@ loop-next-preserved c =
     let p = to_z w32 (of_z w32 c.in-Some.next) in
     let fits : SFits w32 c.in-Some.next = search rules in
     let next = subst (IsNextRow c.strip.result.now.steady c.loop-next.rest.now) (sym (to_z-of_z w32 c.in-Some.next fits)) c.in-Some.ensures in
-    let turn = turn_of z p c.loop-next.cover c.add_first-rest.new.cover c.go_to.new.self c.loop-next.rest.now c.add_first-rest.result.now c.strip.result.now c.strip.ensures next c.add_first-rest.ensures c.go_to.ensures in
-    into_new c.args.rects.now z p c.loop-next.cover c.add_first-rest.new.cover c.go_to.new.self c.loop-next.rest.now c.add_first-rest.result.now c.loop-next.bands c.push_band.new.bands c.strip-in-Some.result.now c.strip-in-Some-2.result.now c.strip-in-Some-3.result.now c.loop-next.invariant turn c.strip-in-Some.ensures c.strip-in-Some-2.ensures c.strip-in-Some-3.ensures
+    let turn = turn_of z p c.loop-next.cover c.add_first-rest.new.cover c.go_to.new.self c.loop-next.rest.now c.add_first-rest.result.now c.strip.result.now
+    c.strip.ensures next c.add_first-rest.ensures c.go_to.ensures in
+    into_new c.args.rects.now z p c.loop-next.cover c.add_first-rest.new.cover c.go_to.new.self c.loop-next.rest.now c.add_first-rest.result.now
+    c.loop-next.bands c.push_band.new.bands c.strip-in-Some.result.now c.strip-in-Some-2.result.now c.strip-in-Some-3.result.now c.loop-next.invariant
+    turn c.strip-in-Some.ensures c.strip-in-Some-2.ensures c.strip-in-Some-3.ensures
     (λ e. false≢true (sym c.if-are_equal.false ∙ c.are_equal.ensures.1 e)) c.in_ok-push_band.ensures
 
 pub returns : goal.returns

@@ -1,5 +1,5 @@
 use Rattle.std.proofs.Common.{◌+◌, length}
-use Rattle.region.specs.Scan.{IsScannedInto}
+use Rattle.region.specs.InnerScan.{IsScannedInto}
 use Rattle.region.proofs.ScanTurnLemmas.{rows_below}
 use Rattle.region.proofs.scan.scanned_bands.Given as goal
 

@@ -1,6 +1,7 @@
 use Rattle.std.proofs.Common.{◌≡◌, take}
 use Rattle.std.specs.List.{All, filter}
-use Rattle.region.specs.Scan.{IsSolid, has_points}
+use Rattle.geom_base.specs.Points.{has_points}
+use Rattle.region.specs.InnerScan.{IsSolid}
 use Rattle.region.proofs.scan.solid_rects.Given as goal
 
 abbrev pub invariant-loop-rect : goal.invariant-loop-rect

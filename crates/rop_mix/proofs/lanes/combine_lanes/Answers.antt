@@ -10,7 +10,8 @@ loop-d-preserved g c =
     let room : c.loop-d.i + 8 ≤ length c.loop-d.d = omega arith in
     record {
       within = rw (length-put_chunk c.loop-d.i c.loop-d.d row) room;
-      done = stored_done (λ k. rop3_of c.args.code (g.P.Operand.at c.args.p.now k) (g.S.Operand.at c.args.s.now k) (get_or c.args.d.now k 0) c.args.bits) 8 c.loop-d.i c.loop-d.d row
+      done = stored_done (λ k. rop3_of c.args.code (g.P.Operand.at c.args.p.now k) (g.S.Operand.at c.args.s.now k)
+          (get_or c.args.d.now k 0) c.args.bits) 8 c.loop-d.i c.loop-d.d row
           c.apply_lanes-row.ensures.lanes room c.loop-d.invariant.done
           (λ j h. c.apply_lanes-row.ensures.values j h
           ∙ rw (

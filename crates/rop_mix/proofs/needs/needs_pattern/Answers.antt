@@ -14,4 +14,5 @@ pub returns-else-byte_needs_pattern-clause-need : goal.returns-else-byte_needs_p
 returns-else-byte_needs_pattern-clause-need c = pattern_need _ c.args.rop.code (cc (pattern_needed-second c.args.rop.code (cc)))
 
 pub returns-else-byte_needs_pattern-clause-spared : goal.returns-else-byte_needs_pattern-clause-spared
-returns-else-byte_needs_pattern-clause-spared c none m p q s d bits = rop4_of-any_pattern c.args.rop.code m p q s d bits (cc (pattern_needed-second c.args.rop.code (cc), none))
+returns-else-byte_needs_pattern-clause-spared c none m p q s d bits = rop4_of-any_pattern c.args.rop.code m p q s d bits
+    (cc (pattern_needed-second c.args.rop.code (cc), none))

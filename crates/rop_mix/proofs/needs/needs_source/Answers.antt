@@ -14,4 +14,5 @@ pub returns-else-byte_needs_source-clause-need : goal.returns-else-byte_needs_so
 returns-else-byte_needs_source-clause-need c = source_need _ c.args.rop.code (cc (source_needed-second c.args.rop.code (cc)))
 
 pub returns-else-byte_needs_source-clause-spared : goal.returns-else-byte_needs_source-clause-spared
-returns-else-byte_needs_source-clause-spared c none m p s t d bits = rop4_of-any_source c.args.rop.code m p s t d bits (cc (source_needed-second c.args.rop.code (cc), none))
+returns-else-byte_needs_source-clause-spared c none m p s t d bits = rop4_of-any_source c.args.rop.code m p s t d bits
+    (cc (source_needed-second c.args.rop.code (cc), none))

@@ -2,8 +2,8 @@ use Rattle.std.specs.Int.Bits.{mask_lt}
 use Rattle.rop_mix.proofs.BitLemmas.{word_is_rop3}
 use Rattle.rop_mix.proofs.ternary.rop3.Goals as goal
 
-pub returns-clause-narrow : goal.returns-clause-narrow
-returns-clause-narrow c = rw c.low_mask.ensures (mask_lt c.choose-5.result c.args.bits)
+pub returns-clause-fits : goal.returns-clause-fits
+returns-clause-fits c = rw c.low_mask.ensures (mask_lt c.choose-5.result c.args.bits)
 
 pub returns-clause-value : goal.returns-clause-value
 returns-clause-value c =

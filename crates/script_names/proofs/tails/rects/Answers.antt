@@ -10,7 +10,8 @@ returns-in_err-one-clause-value c =
     rw (p.1, p.2) (rects_exit _ c.loop-i.invariant (grind (arith, length-map)) (sym c.in_err-one.ensures.value))
 
 pub loop-i-preserved : goal.loop-i-preserved
-loop-i-preserved c = rw c.in_ok-push.ensures.items (rects_step c.in_ok-one.one c.loop-i.invariant (grind (arith, length-map)) (sym c.in_ok-one.ensures.value) c.in_ok-one.ensures.range)
+loop-i-preserved c = rw c.in_ok-push.ensures.items
+    (rects_step c.in_ok-one.one c.loop-i.invariant (grind (arith, length-map)) (sym c.in_ok-one.ensures.value) c.in_ok-one.ensures.range)
 
 pub returns-clause-value : goal.returns-clause-value
 returns-clause-value c = rects_end c.loop-i.invariant (grind (arith, length-map))

@@ -1,5 +1,5 @@
 use Rattle.std.proofs.Common.{arith}
-use Rattle.script_words.proofs.FindLemmas.{lines_fit}
+use Rattle.script_words.specs.LineLaws.{lines_fit}
 use Rattle.script_read.proofs.tests.taken.Goals as goal
 
 pub read_script-requires : goal.read_script-requires

@@ -1,5 +1,6 @@
 use Rattle.std.proofs.Common.{arith, rules}
-use Rattle.script_words.proofs.FindLemmas.{passed_more, found_here, lines_fit}
+use Rattle.script_words.specs.LineLaws.{lines_fit}
+use Rattle.script_words.proofs.FindLemmas.{passed_more, found_here}
 use Rattle.script_words.proofs.finding.find_line.Goals as goal
 
 pub returns-then-eq : goal.returns-then-eq

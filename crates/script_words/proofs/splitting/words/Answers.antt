@@ -8,6 +8,7 @@ pub returns : goal.returns
 returns c =
     let seen = YieldsList-end
     (YieldsList-at c.into_iter-part-iterator.ensures.into_iter_gives
-    (YieldsList-from_slice_split _ (λ b. b == 32) c.args.line.now c.split-part-items.ensures.rest c.split-part-items.ensures.done c.split-part-items.ensures.closure (λ x r q k. search (rules, tests))))
+    (YieldsList-from_slice_split _ (λ b. b == 32) c.args.line.now c.split-part-items.ensures.rest c.split-part-items.ensures.done
+    c.split-part-items.ensures.closure (λ x r q k. search (rules, tests))))
     c.loop-part.yielded _ c.loop-part.yielded_by _ _ c.in-None.is c.next.ensures.steps in
     rw (← seen.0) c.loop-part.invariant

@@ -1,7 +1,7 @@
 use Rattle.std.proofs.Common.{◌≡◌, ◌*◌, ◌+◌, ◌<◌, ℕ, get_or}
 use Rattle.pix_format.specs.declared.format.Format.TheVariants.{B1}
 use Rattle.surf_obj.specs.Layout.{pixel_in}
-use Rattle.surf_obj.specs.Bytes.{ChangesOnly}
+use Rattle.surf_obj.specs.InnerBytes.{ChangesOnly}
 use Rattle.surf_obj.proofs.rows.write_bits.Given as goal
 
 abbrev pub invariant-loop-i : goal.invariant-loop-i

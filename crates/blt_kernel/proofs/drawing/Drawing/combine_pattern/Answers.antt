@@ -3,5 +3,7 @@ use Rattle.blt_kernel.proofs.DrawLemmas.{row_gives}
 use Rattle.blt_kernel.proofs.drawing.Drawing.combine_pattern.Goals as goal
 
 pub returns : goal.returns
-returns c = row_gives c.args.self.now c.args.dst.now c.args.x c.args.y _ c.clear_code-code.result c.bits-2.result (λ k. get_or c.fill_run.new.out k 0) (λ k. get_or c.read_source.new.out k 0) (λ k. get_or c.read_run.new.out k 0)
-    c.requires.mask c.clear_code-code.ensures (search rules) (search rules) (search rules) (search rules) (search rules)
+returns c = row_gives c.args.self.now c.args.dst.now c.args.x c.args.y _ c.code_where_clear-code.result c.bits-2.result (λ k. get_or c.fill_row.new.out k 0)
+    (λ k. get_or c.read_source.new.out k 0) (λ k. get_or c.read_row.new.out k 0) c.requires.mask c.code_where_clear-code.ensures (search rules) (search rules)
+    (λ k h. rw c.at-2.ensures at (c.fill_row.ensures.values k (search rules))) (search rules)
+    (λ k h. rw c.at.ensures at (c.read_row.ensures.values k (search rules)))

@@ -1,7 +1,12 @@
-use Rattle.std.proofs.Common.{◌≡◌, ◌<◌, ◌+◌, ◌%◌, ℕ, get_or}
-use Rattle.brush_obj.specs.Hatches.{hatch_value}
+use Rattle.std.proofs.Common.{◌≡◌, ◌<◌, ◌+◌, ◌%◌, ◌^◌, ℕ, get_or}
+use Rattle.pix_format.specs.Value.{bits_of}
+use Rattle.pix_format.specs.declared.format.Format.{Format}
+use Rattle.brush_obj.specs.Hatches.{HatchFits, hatch_value}
 use Rattle.brush_obj.proofs.hatch_values.HatchValues.fill_part.Given as goal
 
 -- the values below k are those of the hatch
 abbrev pub invariant-loop-k : goal.invariant-loop-k
-invariant-loop-k l = (j : ℕ) → j < l.k → get_or l.out j 0 ≡ hatch_value l.self ((l.x + j) % 8) l.y
+invariant-loop-k l = record {
+  values : (j : ℕ) → j < l.k → get_or l.out j 0 ≡ hatch_value l.self ((l.x + j) % 8) l.y;
+  fit : (format : Format) → HatchFits format l.self → (j : ℕ) → j < l.k → get_or l.out j 0 < 2 ^ bits_of format;
+}

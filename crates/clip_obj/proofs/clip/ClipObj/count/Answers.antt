@@ -1,12 +1,13 @@
 use Rattle.std.proofs.Common.{ap, subst}
-use Rattle.region.specs.Region.{IsRegion}
-use Rattle.region.proofs.OrderLemmas.{region_in_order}
-use Rattle.region.proofs.RegionLemmas.{region_is_apart}
+use Rattle.geom_base.specs.Points.{AreApart}
+use Rattle.region.specs.Order.{ComesFirst, IsInOrder}
 use Rattle.clip_obj.specs.Clip.{Clip}
+use Rattle.clip_obj.specs.OrderLaws.{pairs_weaker}
+use Rattle.clip_obj.proofs.OrderLemmas.{first_is_apart}
 use Rattle.clip_obj.proofs.clip.ClipObj.count.Goals as goal
 
-pub returns-clause-apart : goal.returns-clause-apart
-returns-clause-apart c = region_is_apart c.args.self.now.rects (subst IsRegion (ap (λ (v : Clip). v.rects) c.self.view_is) c.self.invariant.0)
-
 pub returns-clause-in_order : goal.returns-clause-in_order
-returns-clause-in_order c = region_in_order c.args.self.now.rects (subst IsRegion (ap (λ (v : Clip). v.rects) c.self.view_is) c.self.invariant.0)
+returns-clause-in_order c = subst IsInOrder (ap (λ (v : Clip). v.rects) c.self.view_is) c.self.invariant.1
+
+pub returns-clause-apart : goal.returns-clause-apart
+returns-clause-apart c = pairs_weaker ComesFirst AreApart c.args.self.now.rects first_is_apart (returns-clause-in_order c).order

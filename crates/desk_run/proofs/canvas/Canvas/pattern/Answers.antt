@@ -1,5 +1,5 @@
 use Rattle.surf_obj.specs.Object.{object_layout, object_bytes}
-use Rattle.surf_obj.proofs.LayoutLemmas.{length-values_in}
+use Rattle.surf_obj.specs.LayoutLaws.{length-values_in}
 use Rattle.desk_run.proofs.canvas.Canvas.pattern.Goals as goal
 
 pub pattern-requires-clause-whole : goal.pattern-requires-clause-whole

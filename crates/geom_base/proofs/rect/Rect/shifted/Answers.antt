@@ -1,7 +1,7 @@
 use Rattle.std.proofs.Common.{arith}
 use Rattle.std.proofs.lemmas.Int.{ints}
 use Rattle.geom_base.specs.Points.{moved_rect}
-use Rattle.geom_base.proofs.PointLemmas.{IsIn-moved, same_edges}
+use Rattle.geom_base.specs.PointLaws.{IsIn-moved, same_edges}
 use Rattle.geom_base.proofs.rect.Rect.shifted.Goals as goal
 
 pub returns-clause-edges : goal.returns-clause-edges

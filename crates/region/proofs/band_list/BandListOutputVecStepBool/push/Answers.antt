@@ -2,7 +2,7 @@ use Rattle.std.proofs.Common.{◌≡◌, ◌+◌, ◌/◌, ◌∙◌, ◌++◌, 
 use Rattle.region.proofs.CountLemmas.{kept_room, kept_more, kept_alone}
 use Rattle.region.proofs.band_list.BandListOutputVecStepBool.push.Goals as goal
 use Rattle.region.proofs.band_list.BandListOutputVecStepBool.push.Goals.{then-self-gt-MOST_RECTANGLES, else-self-gt-MOST_RECTANGLES}
-use Rattle.region.specs.Columns.{columns_of}
+use Rattle.region.specs.InnerColumns.{columns_of}
 
 pub overflow_add-self : goal.overflow_add-self
 overflow_add-self c =
@@ -16,9 +16,14 @@ returns c = λ bands k p.
     let pushed = rw c.in_ok-push.was at c.push.ensures.items in
     elim c.if-self-gt-MOST_RECTANGLES.branch [
       | then-self-gt-MOST_RECTANGLES w ↦
-          let total : c.if-self-gt-MOST_RECTANGLES.self.count ≡ c.args.self.now.count + length c.args.step.value.items / 2 = ap (λ s. s.count) w.self-is ∙ ap (λ n. c.args.self.now.count + n / 2) len in
-          kept_alone columns_of bands c.args.self.now.bands.items c.push.new.self.items c.args.self.now.count c.if-self-gt-MOST_RECTANGLES.self.count c.args.step total k p (omega (arith, total, len, w.if-self-gt-MOST_RECTANGLES.true)) (pushed ∙ ap (λ u. u ++ c.args.step ∷ []) (ap (λ s. s.bands.items) w.self-is ∙ w.clear.ensures.items))
+          let total : c.if-self-gt-MOST_RECTANGLES.self.count ≡ c.args.self.now.count + length c.args.step.value.items / 2 = ap (λ s. s.count) w.self-is
+          ∙ ap (λ n. c.args.self.now.count + n / 2) len in
+          kept_alone columns_of bands c.args.self.now.bands.items c.push.new.self.items c.args.self.now.count c.if-self-gt-MOST_RECTANGLES.self.count
+          c.args.step total k p (omega (arith, total, len, w.if-self-gt-MOST_RECTANGLES.true))
+          (pushed ∙ ap (λ u. u ++ c.args.step ∷ []) (ap (λ s. s.bands.items) w.self-is ∙ w.clear.ensures.items))
       | else-self-gt-MOST_RECTANGLES w ↦
-          let total : c.if-self-gt-MOST_RECTANGLES.self.count ≡ c.args.self.now.count + length c.args.step.value.items / 2 = ap (λ s. s.count) w.self-is ∙ ap (λ n. c.args.self.now.count + n / 2) len in
-          kept_more columns_of bands c.args.self.now.bands.items c.push.new.self.items c.args.self.now.count c.if-self-gt-MOST_RECTANGLES.self.count c.args.step total k p (pushed ∙ ap (λ u. u ++ c.args.step ∷ []) (ap (λ s. s.bands.items) w.self-is))
+          let total : c.if-self-gt-MOST_RECTANGLES.self.count ≡ c.args.self.now.count + length c.args.step.value.items / 2 = ap (λ s. s.count) w.self-is
+          ∙ ap (λ n. c.args.self.now.count + n / 2) len in
+          kept_more columns_of bands c.args.self.now.bands.items c.push.new.self.items c.args.self.now.count c.if-self-gt-MOST_RECTANGLES.self.count
+          c.args.step total k p (pushed ∙ ap (λ u. u ++ c.args.step ∷ []) (ap (λ s. s.bands.items) w.self-is))
     ]

@@ -1,7 +1,7 @@
 use Rattle.std.proofs.Common.{ℕ, ◌≡◌, ◌≤◌, ◌<◌, ◌+◌, ◌^◌, ◌⊎◌, get_or}
 use Rattle.pix_format.specs.Value.{bits_of}
 use Rattle.surf_obj.specs.View.{view_values, view_size, view_format}
-use Rattle.surf_obj.specs.Surface.{value_at}
+use Rattle.geom_base.specs.Grid.{value_at}
 use Rattle.surf_obj.proofs.view.LentView.read_each.Given as goal
 
 abbrev pub invariant-loop-i : goal.invariant-loop-i

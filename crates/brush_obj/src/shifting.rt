@@ -1,0 +1,18 @@
+//! Points that are moved.
+
+ghost use Rattle.std.specs.Prelude.{◌≡◌};
+ghost use Rattle.geom_base.specs.Points.{moved};
+ghost use Rattle.brush_obj.specs.Calls.{PointMoves};
+
+use geom_base::Point;
+
+/// A point moved by the coordinates of another.
+pub fn shifted(p: Point, by: Point) -> Point
+    requires { PointMoves p by }
+    ensures { result ≡ moved p by }
+{
+    Point {
+        x: p.x + by.x,
+        y: p.y + by.y,
+    }
+}
