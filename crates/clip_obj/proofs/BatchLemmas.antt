@@ -1,6 +1,7 @@
 -- Rectangles that are put into the first places one after the other.
-use Rattle.std.proofs.Common.{◌≡◌, ◌∙◌, ℕ, ◌+◌, ◌-◌, ◌<◌, ◌≤◌, zero, suc, List, [], ◌∷◌, ◌++◌, take, drop, length, get_or, set, refl, ap, sym, arith, reverse, IsTrue, nat_lt}
-use Rattle.std.proofs.lemmas.List.{append_assoc, length-reverse, get_or-reverse, get_or-drop, length-drop, take_more}
+use Rattle.std.proofs.Common.{◌≡◌, ◌∙◌, ℕ, ◌+◌, ◌-◌, ◌<◌, ◌≤◌, zero, suc, List, [], ◌∷◌, ◌++◌, take, drop, length}
+use Rattle.std.proofs.Common.{get_or, set, refl, ap, sym, arith, reverse, IsTrue, nat_lt}
+use Rattle.std.proofs.lemmas.List.{get_or-reverse, get_or-drop, length-drop}
 use Rattle.std.proofs.lemmas.Bool.Decides.{nat_tests}
 use Rattle.std.proofs.lemmas.List.Sorted.{length_permutation}
 use Rattle.geom_base.specs.declared.rect.Rect.{Rect}
@@ -31,16 +32,6 @@ batch_next d rects first out from len i r lt fits places so is =
     let value : r ≡ get_or (drop from (ordered d rects)) i no_rect = is ∙ sym (get_or-drop from (ordered d rects) i no_rect) in
     rw (so, value, e) (set_next i (drop from (ordered d rects)) first no_rect (omega (arith, long, fits, lt)) (omega (arith, lt, places)))
 
--- from the last one
-pub back_next : (rects : List Rect) (i : ℕ) → i < length rects →
-    take (i + 1) (reverse rects) ≡ take i (reverse rects) ++ get_or rects (length rects - 1 - i) no_rect ∷ []
-back_next rects i lt =
-    take_more (reverse rects) i no_rect (rw (length-reverse rects) lt) ∙ ap (λ (r : Rect). take i (reverse rects) ++ r ∷ []) (get_or-reverse rects i no_rect lt)
-
-pub turned_back : (rects from_right : List Rect) (i : ℕ) → from_right ≡ turned rects → i < length rects →
-    get_or from_right (length from_right - 1 - i) no_rect ≡ get_or (reverse (turned rects)) i no_rect
-turned_back rects from_right i e lt = rw e (sym (get_or-reverse (turned rects) i no_rect (rw (length-ordered LeftDown rects) lt)))
-
 -- how many are left
 pub length-left : (d : Direction) (rects : List Rect) (done : ℕ) → length (drop done (ordered d rects)) ≡ length rects - done
 length-left d rects done = length-drop done (ordered d rects) ∙ ap (λ (n : ℕ). n - done) (length-ordered d rects)
@@ -54,9 +45,9 @@ more_left d rects done n left e =
     tested : (l done n left : ℕ) → left ≡ l - done → (IsTrue (nat_lt n left) → 0 < l - (done + n)) × (0 < l - (done + n) → IsTrue (nat_lt n left))
     tested l done n left e = (λ h. grind (arith, nat_tests), λ h. grind (arith, nat_tests))
 
-pub push_next : (rects first out new : List Rect) (i : ℕ) → i < length rects → out ≡ first ++ take i (reverse rects) →
-    new ≡ out ++ get_or rects (length rects - 1 - i) no_rect ∷ [] → new ≡ first ++ take (i + 1) (reverse rects)
-push_next rects first out new i lt so is =
-    is ∙ ap (λ (l : List Rect). l ++ get_or rects (length rects - 1 - i) no_rect ∷ []) so
-    ∙ append_assoc first (take i (reverse rects)) (get_or rects (length rects - 1 - i) no_rect ∷ [])
-    ∙ ap (λ (l : List Rect). first ++ l) (sym (back_next rects i lt))
+-- from the last one
+pub turned_back : (rects : List Rect) (i : ℕ) → i < length rects → get_or (turned rects) (length rects - 1 - i) no_rect ≡ get_or (reverse (turned rects)) i
+    no_rect
+turned_back rects i lt =
+    ap (λ n. get_or (turned rects) (n - 1 - i) no_rect) (sym (length-ordered LeftDown rects))
+    ∙ sym (get_or-reverse (turned rects) i no_rect (rw (length-ordered LeftDown rects) lt))

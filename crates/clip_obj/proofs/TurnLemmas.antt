@@ -1,16 +1,20 @@
 -- Bands that are turned round.
-use Rattle.std.proofs.Common.{◌≡◌, ◌∙◌, ℕ, take, drop, ℤ, List, [], ◌∷◌, ◌++◌, Bool, true, false, cond, refl, ap, sym, ◌⊎◌, inl, inr, reverse}
+use Rattle.std.proofs.Common.{◌≡◌, ◌∙◌, ℤ, List, [], ◌∷◌, ◌++◌, Bool, true, false, cond, refl, ap, sym, ◌⊎◌, inl, inr, reverse}
 use Rattle.std.specs.Ordering.{int_eq}
 use Rattle.std.specs.List.{All}
 use Rattle.std.proofs.lemmas.Bool.{cases_Bool, false_from_ne_true, false≢true}
 use Rattle.std.proofs.lemmas.Bool.Decides.{Decides-int_eq}
 use Rattle.std.proofs.lemmas.Grind.{reverse_onto}
-use Rattle.std.proofs.lemmas.List.{append_assoc, take-append-drop}
+use Rattle.std.proofs.lemmas.List.{append_assoc}
 use Rattle.std.proofs.lemmas.List.Elements.{All-head, All-tail}
 use Rattle.std.proofs.lemmas.List.Sorted.{IsPermutation-reverse, All-permutation}
 use Rattle.geom_base.specs.declared.rect.Rect.{Rect}
 use Rattle.clip_obj.specs.Order.{behind_band, turned}
-use Rattle.clip_obj.specs.InnerOrder.{BeginsElsewhere}
+
+-- the first rectangle, if any, begins in another row
+abbrev pub BeginsElsewhere : ℤ → List Rect → Type 0
+BeginsElsewhere top [] = Unit {0}
+BeginsElsewhere top (r ∷ rects) = ¬ (r.top ≡ top)
 
 -- the test of two rows
 pub same_row : (a b : ℤ) → a ≡ b → int_eq a b ≡ true
@@ -34,7 +38,7 @@ passes r (s ∷ xs) ys h =
     ∙ ap (λ (l : List Rect). s ∷ l) (passes r xs ys (All-tail (λ t. t.top ≡ r.top) s xs h))
 
 -- and stays before others
-stays : (r : Rect) (ys : List Rect) → BeginsElsewhere r.top ys → behind_band r ys ≡ r ∷ ys
+pub stays : (r : Rect) (ys : List Rect) → BeginsElsewhere r.top ys → behind_band r ys ≡ r ∷ ys
 stays r [] h = refl
 stays r (s ∷ ys) h = ap (λ (t : Bool). cond t (s ∷ behind_band r ys) (r ∷ s ∷ ys)) (other_row s.top r.top h)
 
@@ -43,7 +47,7 @@ begins_by s t top true xs ys e n = λ same. n (sym ((Decides-int_eq t.top s.top)
 begins_by s t top false xs ys e n = n
 
 -- turning keeps the row in which the first one begins
-turned_begins : (top : ℤ) (rects : List Rect) → BeginsElsewhere top rects → BeginsElsewhere top (turned rects)
+pub turned_begins : (top : ℤ) (rects : List Rect) → BeginsElsewhere top rects → BeginsElsewhere top (turned rects)
 turned_begins top [] h = tt
 turned_begins top (s ∷ rects) h = first (turned rects)
   where
@@ -65,12 +69,3 @@ turned_band top (r ∷ band) rest h n =
     ∙ ap (λ (l : List Rect). reverse band ++ l) (stays r (turned rest) (rw row (turned_begins top rest n)))
     ∙ sym (append_assoc (reverse band) (r ∷ []) (turned rest))
     ∙ ap (λ (l : List Rect). l ++ turned rest) (sym (reverse_onto band r []))
-
--- one band more
-pub turn_next : (top : ℤ) (n : ℕ) (out rest new later front all : List Rect) → All (λ r. r.top ≡ top) (take n rest) → BeginsElsewhere top (drop n rest) →
-    new ≡ out ++ reverse front → front ≡ take n rest → later ≡ drop n rest → out ++ turned rest ≡ all → new ++ turned later ≡ all
-turn_next top n out rest new later front all band next is first second so =
-    rw (is, first, second)
-    (append_assoc out (reverse (take n rest)) (turned (drop n rest))
-    ∙ ap (λ (l : List Rect). out ++ l) (sym (turned_band top (take n rest) (drop n rest) band next) ∙ ap turned (take-append-drop n rest))
-    ∙ so)

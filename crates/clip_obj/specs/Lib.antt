@@ -2,4 +2,4 @@ pub mod Order
 pub mod OrderLaws
 pub mod Clip
 pub mod Complexity
-pub mod InnerOrder
+pub mod InnerBand

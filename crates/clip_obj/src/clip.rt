@@ -3,20 +3,22 @@
 ghost use Rattle.std.specs.Prelude.{◌≡◌, ◌<◌, ◌++◌, ◌↔◌, IsTrue, IfOk, length, min, take, drop, All};
 ghost use Rattle.std.specs.List.{AllPairs};
 ghost use Rattle.std.specs.List.Sorted.{IsPermutation};
-ghost use Rattle.geom_base.specs.Points.{AreApart};
+ghost use Rattle.geom_base.specs.Points.{AreApart, moved_rect};
 ghost use Rattle.region.specs.Region.{IsRegion};
 ghost use Rattle.region.specs.Order.{IsInOrder};
-ghost use Rattle.clip_obj.specs.Clip.{IsClipOf, LiesWithin};
+ghost use Rattle.region.specs.Moved.{CanMove};
+ghost use Rattle.clip_obj.specs.Clip.{IsClipOf, IsClipAt, LiesWithin, to_origin};
 ghost use Rattle.clip_obj.specs.Complexity.{IsComplexity};
 ghost use Rattle.clip_obj.specs.Order.{ordered, ComesBefore};
 
+use crate::band::{Band, NO_BAND};
 use crate::batch::fill_batch;
 use crate::clipped::clipped_rects;
 use crate::complexity::Complexity;
 use crate::direction::Direction;
-use crate::turned::turned_rects;
-use geom_base::Rect;
-use region::{Region, fills_bounds};
+use crate::moved::{all_seen_from, seen_from};
+use geom_base::{Point, Rect};
+use region::{Region, fills_bounds, regions_are_canonical};
 use std::alloc::{AllocError, Global};
 use std::marker::Model;
 
@@ -25,9 +27,11 @@ use std::marker::Model;
 pub struct ClipObj {
     bounds: Rect,
     rects: Vec<Rect>,
-    from_right: Vec<Rect>,
     direction: Direction,
     done: usize,
+    band: Band,
+    ghost inside: { All (LiesWithin bounds) rects.items },
+    ghost apart: { AllPairs AreApart rects.items },
 }
 
 impl Model for ClipObj {
@@ -35,14 +39,20 @@ impl Model for ClipObj {
     ghost use Rattle.region.specs.Region.{IsRegion};
     ghost use Rattle.region.specs.Order.{IsInOrder};
     ghost use Rattle.clip_obj.specs.Clip.{Clip, LiesWithin};
-    ghost use Rattle.clip_obj.specs.Order.{ordered, turned};
+    ghost use Rattle.clip_obj.specs.Order.{ordered};
+    ghost use Rattle.clip_obj.specs.InnerBand.{IsBand};
 
     ghost Value = { Clip };
 
-    ghost view = { λ c. record { bounds = c.bounds; rects = c.rects.items; left = drop c.done (ordered c.direction c.rects.items) } };
+    ghost view = { λ c. record {
+      bounds = c.bounds;
+      rects = c.rects.items;
+      left = drop c.done (ordered c.direction c.rects.items);
+      inside = c.inside;
+      apart = c.apart;
+    } };
 
-    ghost invariant = { λ c. IsRegion c.rects.items × IsInOrder c.rects.items × All (LiesWithin c.bounds) c.rects.items ×
-        (c.from_right.items ≡ turned c.rects.items) × (c.done ≤ length c.rects.items) };
+    ghost invariant = { λ c. IsRegion c.rects.items × IsInOrder c.rects.items × (c.done ≤ length c.rects.items) × IsBand c.rects.items c.band };
 }
 
 impl ClipObj {
@@ -60,14 +70,46 @@ impl ClipObj {
         ensures inside { IfOk result (λ c. All (LiesWithin bounds) c.rects) }
     {
         let rects = clipped_rects(alloc, region, &bounds)?;
-        let from_right = turned_rects(alloc, &rects)?;
-        Ok(ClipObj {
+        Ok(ClipObj::begun(bounds, rects))
+    }
+
+    /// The part of a region in bounds, or all of the bounds where there is no region, moved so that a point becomes 0 0.
+    ///
+    /// # Errors
+    ///
+    /// `AllocError` for want of memory.
+    pub fn build_at(
+        alloc: Global,
+        region: Option<&Region>,
+        bounds: Rect,
+        at: Point,
+    ) -> Result<ClipObj, AllocError>
+        requires { CanMove (to_origin at) bounds }
+        ensures clip { IfOk result (IsClipAt region.entry bounds at) }
+        ensures inside { IfOk result (λ c. All (LiesWithin (moved_rect bounds (to_origin at))) c.rects) }
+    {
+        let clipped = clipped_rects(alloc, region, &bounds)?;
+        regions_are_canonical();
+        let rects = all_seen_from(&at, clipped);
+        Ok(ClipObj::begun(seen_from(&at, &bounds), rects))
+    }
+
+    /// The clip of bounds and a region's rectangles within them, of which nothing was handed out.
+    fn begun(bounds: Rect, rects: Vec<Rect>) -> ClipObj
+        requires canonical { IsRegion rects.items }
+        requires in_order { IsInOrder rects.items }
+        requires inside { All (LiesWithin bounds) rects.items }
+        ensures bounds { result.bounds ≡ bounds }
+        ensures rects { result.rects ≡ rects.items }
+        ensures left { result.left ≡ rects.items }
+    {
+        ClipObj {
             bounds,
             rects,
-            from_right,
             direction: Direction::Any,
             done: 0,
-        })
+            band: NO_BAND,
+        }
     }
 
     /// Whether it is all of its bounds, one rectangle, or anything else.
@@ -120,7 +162,7 @@ impl ClipObj {
             out,
             len,
             &self.rects,
-            &self.from_right,
+            &mut self.band,
             self.direction,
             self.done,
         );

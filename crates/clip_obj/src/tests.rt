@@ -1,13 +1,19 @@
 //! Batches of clips, and what clips leave of their bounds.
 
+ghost use Rattle.std.specs.Prelude.{◌≡◌};
+ghost use Rattle.region.specs.Moved.{CanMove};
+ghost use Rattle.clip_obj.specs.Clip.{to_origin};
+
 use super::*;
-use geom_base::Rect;
+use geom_base::{Point, Rect};
 use region::{Region, RegionRefusal};
 use std::alloc::Global;
 use std::process::Abort;
 use std::test::Fail;
 
-fn rect(left: i32, top: i32, right: i32, bottom: i32) -> Rect {
+fn rect(left: i32, top: i32, right: i32, bottom: i32) -> Rect
+    ensures { result ≡ record { left = left; top = top; right = right; bottom = bottom } }
+{
     Rect {
         left,
         top,
@@ -109,6 +115,67 @@ fn starts_anew_in_the_middle(rt: HostRuntime) -> Result<(), Fail> {
     assert!(rt; hands_out(&mut clip, &mut places, &ORDERS[3].1));
     clip.enum_start(Direction::LeftUp);
     assert!(rt; hands_out(&mut clip, &mut places, &ORDERS[3].1));
+    Ok(())
+}
+
+/// The rectangles of a clip of at most 6, from left to right and top to bottom.
+fn all_of(clip: &mut ClipObj) -> ([Rect; 6], usize) {
+    let mut places = [NOTHING; 6];
+    clip.enum_start(Direction::RightDown);
+    let (len, _) = clip.next_batch(&mut places);
+    (places, len)
+}
+
+#[test]
+fn seen_from_a_point(rt: HostRuntime) -> Result<(), Fail> {
+    let alloc = rt.alloc();
+    let region = Region::from_rects(alloc, &parts())?;
+    let at = Point { x: 2, y: 3 };
+    let mut clip = ClipObj::build_at(alloc, Some(&region), rect(1, 1, 7, 9), at)?;
+    let want = [
+        rect(-1, -2, 1, -1),
+        rect(3, -2, 5, -1),
+        rect(0, 0, 2, 3),
+        rect(4, 0, 5, 3),
+        rect(1, 3, 5, 4),
+        NOTHING,
+    ];
+    assert_eq!(rt; all_of(&mut clip), (want, 5));
+    Ok(())
+}
+
+/// The one rectangle of a clip as seen from a point.
+fn seen(alloc: Global, of: Rect, bounds: Rect, at: Point) -> Result<Option<Rect>, Fail>
+    requires { CanMove (to_origin at) bounds }
+{
+    let region = Region::from_rects(alloc, &[of])?;
+    let mut clip = ClipObj::build_at(alloc, Some(&region), bounds, at)?;
+    let (places, len) = all_of(&mut clip);
+    Ok(if len == 1 { Some(places[0]) } else { None })
+}
+
+#[test]
+fn seen_from_far_points(rt: HostRuntime) -> Result<(), Fail> {
+    let alloc = rt.alloc();
+    let all = rect(-32768, -32768, 32767, 32767);
+    let screen = rect(1024, 0, 2048, 768);
+    let right = seen(alloc, all, screen, Point { x: 1024, y: 0 })?;
+    assert_eq!(rt; right, Some(rect(0, 0, 1024, 768)));
+    let edge = rect(32000, -9, 33024, 759);
+    let cut = seen(alloc, all, edge, Point { x: 32000, y: -9 })?;
+    assert_eq!(rt; cut, Some(rect(0, 0, 767, 768)));
+    let strip = rect(30000, 10, 32767, 20);
+    let part = seen(alloc, strip, edge, Point { x: 32000, y: 5 })?;
+    assert_eq!(rt; part, Some(rect(0, 5, 767, 15)));
+    let least = Point {
+        x: i32::MIN,
+        y: i32::MIN,
+    };
+    let far = seen(alloc, all, rect(-5, -5, -1, -1), least)?;
+    let most = rect(2147483643, 2147483643, 2147483647, 2147483647);
+    assert_eq!(rt; far, Some(most));
+    let free = ClipObj::build_at(alloc, None, BOUNDS, Point { x: 9, y: 0 })?;
+    assert_eq!(rt; free.complexity(), Complexity::Trivial);
     Ok(())
 }
 

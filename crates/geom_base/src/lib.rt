@@ -9,7 +9,7 @@ mod rect;
 mod size;
 mod target;
 
-pub use point::Point;
-pub use rect::Rect;
-pub use size::Size;
+pub use point::{Point, coordinate};
+pub use rect::{NO_RECT, Rect};
+pub use size::{MOST_SIDE, Size};
 pub use target::Target;

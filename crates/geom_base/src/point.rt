@@ -1,4 +1,4 @@
-ghost use Rattle.std.specs.Prelude.{◌≡◌, ◌<◌, ◌^◌};
+ghost use Rattle.std.specs.Prelude.{◌≡◌, ◌<◌, ◌≤ℤ◌, ◌^◌, pos};
 ghost use Rattle.geom_base.specs.Points.{point_at};
 
 /// A pixel's place: columns to the right, rows downwards.
@@ -20,4 +20,12 @@ impl Point {
             y: y as i32,
         }
     }
+}
+
+/// A coordinate that isn't negative, as a column or a row.
+pub fn coordinate(at: i32) -> u32
+    requires { pos 0 ≤ℤ at }
+    ensures { pos result ≡ at }
+{
+    at.unsigned_abs()
 }

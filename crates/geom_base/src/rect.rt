@@ -15,7 +15,7 @@ pub struct Rect {
 }
 
 /// The rectangle that stands for no point.
-const NO_RECT: Rect = Rect {
+pub const NO_RECT: Rect = Rect {
     left: 0,
     top: 0,
     right: 0,

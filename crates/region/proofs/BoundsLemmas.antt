@@ -61,7 +61,7 @@ empty_is_whole rects r t e none canonical =
     let w = whole_empty rects r none canonical in
     rw e (λ h. w.0 ((zero_is_empty rects).0 h), λ same. (zero_is_empty rects).1 (w.1 same))
 
-rect_decides : (a b : Rect) → Decides (int_eq a.left b.left && (int_eq a.top b.top && (int_eq a.right b.right && int_eq a.bottom b.bottom))) (a ≡ b)
+pub rect_decides : (a b : Rect) → Decides (int_eq a.left b.left && (int_eq a.top b.top && (int_eq a.right b.right && int_eq a.bottom b.bottom))) (a ≡ b)
 rect_decides a b = Decides-like (int_eq a.left b.left && (int_eq a.top b.top && (int_eq a.right b.right && int_eq a.bottom b.bottom)))
     (λ h. same_edges a b (h.0) (h.1.0) (h.1.1.0) (h.1.1.1))
     (λ e. (ap (λ (r : Rect). r.left) e, (ap (λ (r : Rect). r.top) e, (ap (λ (r : Rect). r.right) e, ap (λ (r : Rect). r.bottom) e))))

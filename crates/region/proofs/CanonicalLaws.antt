@@ -1,4 +1,5 @@
-use Rattle.std.proofs.Common.{◌≡◌, ◌∙◌, inl, inr, ap, sym, refl, map, List, [], ◌∷◌, Bool, ◌&&◌, ◌||◌, Result, Ok, Err, length, ◌<◌, subst, ◌≤◌, ℤ, arith, FitsSigned, w32}
+use Rattle.std.proofs.Common.{◌≡◌, ◌∙◌, inl, inr, ap, sym, refl, map, List, [], ◌∷◌, Bool, ◌&&◌, ◌||◌, Result, Ok}
+use Rattle.std.proofs.Common.{Err, length, ◌<◌, subst, ◌≤◌, ℤ, arith, FitsSigned, w32}
 use Rattle.std.specs.List.{All}
 use Rattle.std.proofs.lemmas.Int.{ints}
 use Rattle.std.proofs.lemmas.List.Elements.{All-nil, All-cons, All-head, All-tail}

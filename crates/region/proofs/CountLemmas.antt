@@ -1,4 +1,5 @@
-use Rattle.std.proofs.Common.{◌≡◌, ◌∙◌, ℕ, ℤ, ◌+◌, ◌*◌, ◌/◌, ◌^◌, ◌<◌, ◌≤◌, ◌≤ℤ◌, ◌-ℤ◌, pos, List, [], ◌∷◌, ◌++◌, length, Bool, true, false, refl, ap, sym, subst, arith, if◌then◌else◌, length-append, suc}
+use Rattle.std.proofs.Common.{◌≡◌, ◌∙◌, ℕ, ℤ, ◌+◌, ◌*◌, ◌/◌, ◌^◌, ◌<◌, ◌≤◌, ◌≤ℤ◌, ◌-ℤ◌, pos, List, [], ◌∷◌, ◌++◌, length, Bool}
+use Rattle.std.proofs.Common.{true, false, refl, ap, sym, subst, arith, if◌then◌else◌, length-append, suc}
 use Rattle.std.proofs.lemmas.Int.{ints}
 use Rattle.geom_base.specs.declared.rect.Rect.{Rect}
 use Rattle.region.specs.declared.step.Step.{Step}
@@ -115,6 +116,10 @@ number_more columns bands kept count b k p =
     let l = half_are_runs (columns b.value) (last_is_valid (λ v. IsColumns (columns v)) bands b p.values).columns in
     omega (arith, m, l, k.number)
 
+-- no bands are kept
+pub none_is_kept : {V : Type 0} (columns : V → List (Step Bool)) (kept : List (Step V)) (count : ℕ) → kept ≡ [] → count ≡ 0 → IsKept columns [] kept count
+none_is_kept columns kept count e n = record { number = n; values = tt; last = λ v. ap (final_value v) e; all = λ few. e }
+
 -- one more band is kept
 pub kept_more : {V : Type 0} (columns : V → List (Step Bool)) (bands kept more : List (Step V)) (count total : ℕ) (b : Step V) →
     total ≡ count + length (columns b.value) / 2 → IsKept columns bands kept count → CanPush (λ v. IsColumns (columns v)) bands b → more ≡ kept ++ b ∷ [] →
@@ -139,7 +144,7 @@ kept_alone columns bands kept more count total b t k p many e = record {
 
 -- bands counted as lists
 
-lists-push : {V : Type 0} (columns : V → Columns) (bands : List (Step V)) (b : Step V) →
+pub lists-push : {V : Type 0} (columns : V → Columns) (bands : List (Step V)) (b : Step V) →
     lists_of columns (bands ++ b ∷ []) ≡ lists_of columns bands ++ record { from = b.from; value = columns b.value } ∷ []
 lists-push columns [] b = refl
 lists-push columns (c ∷ bands) b = ap (λ u. record { from = c.from; value = columns c.value } ∷ u) (lists-push columns bands b)
@@ -170,7 +175,7 @@ pub kept_is_counted : {V : Type 0} (columns : V → Columns) (bands kept : List 
     IsCounted columns (lists_of columns bands) kept count
 kept_is_counted columns bands kept count k = record { number = k.number ∙ sym (count_of_lists columns bands); all = λ few. ap (lists_of columns) (k.all few) }
 
-list_values : {V : Type 0} (columns : V → Columns) (bands : List (Step V)) → AllValid (λ v. IsColumns (columns v)) bands →
+pub list_values : {V : Type 0} (columns : V → Columns) (bands : List (Step V)) → AllValid (λ v. IsColumns (columns v)) bands →
     AllValid IsColumns (lists_of columns bands)
 list_values columns [] h = tt
 list_values columns (b ∷ bands) h = (h.0, list_values columns bands h.1)

@@ -1,4 +1,5 @@
-use Rattle.std.proofs.Common.{◌≡◌, ◌∙◌, ℤ, ◌+◌, ◌<ℤ◌, ◌≤ℤ◌, pos, ◌++◌, Bool, true, false, refl, ap, sym, subst, arith, ◌⊎◌, inl, inr, int_lt, int_le, if◌then◌else◌, ◌&&◌, ◌||◌}
+use Rattle.std.proofs.Common.{◌≡◌, ◌∙◌, ℤ, ◌+◌, ◌<ℤ◌, ◌≤ℤ◌, pos, ◌++◌, Bool, true, false, refl, ap, sym, subst, arith}
+use Rattle.std.proofs.Common.{◌⊎◌, inl, inr, int_lt, int_le, if◌then◌else◌, ◌&&◌, ◌||◌}
 use Rattle.std.specs.Int.{int_max, int_min}
 use Rattle.std.proofs.lemmas.Int.{ints, clamps}
 use Rattle.std.proofs.lemmas.Bool.{false≢true}
@@ -12,7 +13,8 @@ use Rattle.region.specs.declared.cover.Cover.{Cover}
 use Rattle.region.specs.declared.cover.Cover.TheVariants.{Cell, Pair'}
 use Rattle.region.specs.InnerRow.{full_row, empty_row, beside, IsSound}
 use Rattle.region.specs.InnerStrip.{within, seen_at, covered_until}
-use Rattle.region.specs.InnerCover.{strip_of, covers, filled_in, first_in, last_in, steps_in, IsRowOf, IsTold, IsSeen, IsShaped, IsCover, Splits, SameStrip, SameShape, reaches, IsAdded, IsMoved}
+use Rattle.region.specs.InnerCover.{strip_of, covers, filled_in, first_in, last_in, steps_in, IsRowOf, IsTold, IsSeen}
+use Rattle.region.specs.InnerCover.{IsShaped, IsCover, Splits, SameStrip, SameShape, reaches, IsAdded, IsMoved}
 use Rattle.region.specs.InnerBandList.{run_count}
 use Rattle.region.proofs.StepLemmas.{lt_is, ge_is}
 use Rattle.region.proofs.CountLemmas.{flag}

@@ -1,4 +1,5 @@
-use Rattle.std.proofs.Common.{◌≡◌, ◌∙◌, ℕ, ℤ, ◌+◌, ◌-◌, ◌≤◌, ◌<ℤ◌, ◌≤ℤ◌, pos, negsuc, List, [], ◌∷◌, ◌++◌, false, refl, ap, sym, subst, arith, ◌⊎◌, inl, inr, int_lt, append_assoc, length-append, FitsSigned, w32}
+use Rattle.std.proofs.Common.{◌≡◌, ◌∙◌, ℕ, ℤ, ◌+◌, ◌-◌, ◌≤◌, ◌<ℤ◌, ◌≤ℤ◌, pos, negsuc, List, [], ◌∷◌, ◌++◌, false, refl, ap, sym, subst}
+use Rattle.std.proofs.Common.{arith, ◌⊎◌, inl, inr, int_lt, append_assoc, length-append, FitsSigned, w32}
 use Rattle.std.proofs.lemmas.Int.{ints}
 use Rattle.region.specs.declared.strip.Strip.{Strip}
 use Rattle.region.specs.declared.cover.Cover.{Cover}

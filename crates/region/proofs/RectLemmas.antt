@@ -1,4 +1,5 @@
-use Rattle.std.proofs.Common.{◌≡◌, ◌∙◌, ℤ, ◌<ℤ◌, List, [], ◌∷◌, ◌++◌, length, ◌<◌, Bool, true, false, refl, ap, sym, arith, int_lt, int_le, cond, ◌&&◌, ◌||◌, if◌then◌else◌}
+use Rattle.std.proofs.Common.{◌≡◌, ◌∙◌, ℤ, ◌<ℤ◌, List, [], ◌∷◌, ◌++◌, length, ◌<◌, Bool, true, false, refl, ap, sym}
+use Rattle.std.proofs.Common.{arith, int_lt, int_le, cond, ◌&&◌, ◌||◌, if◌then◌else◌}
 use Rattle.std.specs.List.{All, AllPairs}
 use Rattle.std.proofs.lemmas.Bool.{false≢true}
 use Rattle.std.proofs.lemmas.List.Kept.{AllPairs-cons}

@@ -26,7 +26,7 @@ pub held_no_columns : IsColumns []
 held_no_columns = record { columns = no_columns; fits = tt }
 
 -- the code's bands and the lists of their columns
-begins_after : {V : Type 0} (columns : V → Columns) (y : ℤ) (bands : List (Step V)) → BeginsAfter y bands → BeginsAfter y (lists_of columns bands)
+pub begins_after : {V : Type 0} (columns : V → Columns) (y : ℤ) (bands : List (Step V)) → BeginsAfter y bands → BeginsAfter y (lists_of columns bands)
 begins_after columns y [] h = tt
 begins_after columns y (b ∷ bands) h = h
 
@@ -81,7 +81,7 @@ none_at_end bands h x = rw h.ends refl
 pub canonical_points : (bands : Bands) → IsCanonical bands → (p : Point) → is_in_some p (rects_of (λ c. c) bands) ≡ has_point bands p
 canonical_points bands h p = rects_points (λ c. c) [] bands p refl (canonical_is_ordered bands h) h.values (none_at_end bands h)
 
-region_points : (rects : List Rect) (h : IsRegion rects) (p : Point) → is_in_some p rects ≡ has_point h.bands p
+pub region_points : (rects : List Rect) (h : IsRegion rects) (p : Point) → is_in_some p rects ≡ has_point h.bands p
 region_points rects h p = ap (is_in_some p) h.listed ∙ canonical_points h.bands h.canonical p
 
 pub region_is_unique : RegionIsUnique

@@ -1,4 +1,5 @@
-use Rattle.std.proofs.Common.{◌≡◌, ◌∙◌, ℕ, ℤ, ◌+◌, ◌-◌, ◌^◌, ◌<◌, ◌≤◌, ◌<ℤ◌, ◌≤ℤ◌, ◌+ℤ◌, pos, negsuc, List, [], ◌∷◌, ◌++◌, length, get_or, drop, true, false, refl, ap, sym, subst, arith, inl, inr, ◌||◌, FitsSigned, w32}
+use Rattle.std.proofs.Common.{◌≡◌, ◌∙◌, ℕ, ℤ, ◌+◌, ◌-◌, ◌^◌, ◌<◌, ◌≤◌, ◌<ℤ◌, ◌≤ℤ◌, ◌+ℤ◌, pos, negsuc, List, [], ◌∷◌, ◌++◌, length, get_or}
+use Rattle.std.proofs.Common.{drop, true, false, refl, ap, sym, subst, arith, inl, inr, ◌||◌, FitsSigned, w32}
 use Rattle.std.specs.Int.{int_max}
 use Rattle.std.specs.List.{All}
 use Rattle.std.proofs.lemmas.Int.{ints, clamps}
@@ -22,10 +23,12 @@ use Rattle.region.specs.InnerSweep.{before_or}
 use Rattle.region.specs.InnerBandList.{IsCounted, AreCanonical}
 use Rattle.region.specs.InnerCover.{strip_of, covers, filled_in, columns_in, IsCover, IsShaped, SameStrip, SameShape, IsMoved}
 use Rattle.region.specs.InnerEdges.{IsOver}
-use Rattle.region.specs.InnerScan.{IsSolid, AllRects, BeginBelow, BeginIn, AreDownward, IsArranged, HasBothEdges, HaveBegun, IsNextRow, ahead, EndsBeforeRects, IsScanned, IsScannedInto}
+use Rattle.region.specs.InnerScan.{IsSolid, AllRects, BeginBelow, BeginIn, AreDownward, IsArranged, HasBothEdges}
+use Rattle.region.specs.InnerScan.{HaveBegun, IsNextRow, ahead, EndsBeforeRects, IsScanned, IsScannedInto}
 use Rattle.region.specs.declared.band_list.BandList.{BandList}
 use Rattle.region.specs.declared.strip.Strip.{Strip}
-use Rattle.region.proofs.StepLemmas.{at_or_before, final_value-push, EndsBefore-push, EndsBefore-later, AllValid-push, AllFit-push, IsReduced-push, IsOrdered-push, reduced_is_ordered, final_is_valid}
+use Rattle.region.proofs.StepLemmas.{at_or_before, final_value-push, EndsBefore-push, EndsBefore-later, AllValid-push}
+use Rattle.region.proofs.StepLemmas.{AllFit-push, IsReduced-push, IsOrdered-push, reduced_is_ordered, final_is_valid}
 use Rattle.region.proofs.SweepLemmas.{before_or-same, before_or-push, before_or-end, by_place}
 use Rattle.region.proofs.UniqueLemmas.{same_columns}
 use Rattle.region.proofs.RegionLemmas.{no_columns, held_no_columns}

@@ -3,6 +3,7 @@ use Rattle.std.specs.Prelude.{◌≡◌, ◌<◌, ◌≤◌, ℤ, ◌-ℤ◌, po
 use Rattle.std.specs.List.{filter, list_any}
 use Rattle.geom_base.specs.declared.point.Point.{Point}
 use Rattle.geom_base.specs.declared.rect.Rect.{Rect}
+use Rattle.region.specs.Limits.{most_rects}
 use Rattle.region.specs.declared.refusal.RegionRefusal.{RegionRefusal}
 use Rattle.region.specs.declared.refusal.RegionRefusal.TheVariants.{TooMany, NoMemory}
 use Rattle.region.specs.declared.step.Step.{Step}
@@ -46,8 +47,8 @@ CanonicalIsOfSet = (set : Point → Bool) → IsWithinWindow set → IsRegionOf 
 
 -- this list, or the number of its rectangles where these are too many; or there was no memory
 abbrev pub Gives : List Rect → Result (List Rect) RegionRefusal → Type 0
-Gives list (Ok rects) = (rects ≡ list) × (length list ≤ 4096) × Within rects
-Gives list (Err (TooMany n)) = (n ≡ length list) × (4096 < length list)
+Gives list (Ok rects) = (rects ≡ list) × (length list ≤ most_rects) × Within rects
+Gives list (Err (TooMany n)) = (n ≡ length list) × (most_rects < length list)
 Gives list (Err NoMemory) = Unit {0}
 
 -- each answer of an operation gives it

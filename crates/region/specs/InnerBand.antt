@@ -3,6 +3,7 @@ use Rattle.std.specs.Prelude.{◌≡◌, ◌≤◌, length, List, [], ◌∷◌,
 use Rattle.std.specs.Global.{Global}
 use Rattle.geom_base.specs.declared.point.Point.{Point}
 use Rattle.geom_base.specs.declared.rect.Rect.{Rect}
+use Rattle.region.specs.Limits.{most_rects}
 use Rattle.region.specs.declared.step.Step.{Step}
 use Rattle.region.specs.Steps.{AllValid}
 use Rattle.region.specs.Columns.{Columns}
@@ -32,4 +33,4 @@ pub record AreBandsOf {V : Type 0} (columns : V → Columns) (set : Point → Bo
 pub record IsListed {V : Type 0} (columns : V → Columns) (bands : List (Step V)) (rects : List Rect) : Type 0 where
   pub held : IsBands columns bands
   pub listed : rects ≡ rects_of columns bands
-  pub few : length rects ≤ 4096
+  pub few : length rects ≤ most_rects

@@ -1,5 +1,6 @@
 -- Inside the crate: bands that are counted, and kept while they are few.
 use Rattle.std.specs.Prelude.{◌≡◌, ◌+◌, ◌≤◌, ℕ, List, [], ◌∷◌, Bool, if◌then◌else◌}
+use Rattle.region.specs.Limits.{most_rects}
 use Rattle.region.specs.declared.step.Step.{Step}
 use Rattle.region.specs.Steps.{final_value, AllValid}
 use Rattle.region.specs.Columns.{Columns}
@@ -22,12 +23,12 @@ pub record IsKept {V : Type 0} (columns : V → List (Step Bool)) (bands kept : 
   pub number : count ≡ rect_count columns bands
   pub values : AllValid (λ v. IsColumns (columns v)) bands
   pub last : (empty : V) → final_value empty kept ≡ final_value empty bands
-  pub all : count ≤ 4096 → kept ≡ bands
+  pub all : count ≤ most_rects → kept ≡ bands
 
 -- this is the number of the bands' rectangles, and all are kept where these are not too many
 pub record IsCounted {V : Type 0} (columns : V → Columns) (bands : Bands) (kept : List (Step V)) (count : ℕ) : Type 0 where
   pub number : count ≡ rect_count (λ c. c) bands
-  pub all : count ≤ 4096 → lists_of columns kept ≡ bands
+  pub all : count ≤ most_rects → lists_of columns kept ≡ bands
 
 -- canonical bands of columns as code holds them
 pub record AreCanonical (bands : Bands) : Type 0 where

@@ -1,5 +1,5 @@
 -- Inside the crate: what loops over steps keep.
-use Rattle.std.specs.Prelude.{◌≡◌, ◌<◌, ◌≤◌, ℤ, ◌<ℤ◌, ◌≤ℤ◌, length, List, [], ◌∷◌, ◌++◌, Bool, FitsSigned}
+use Rattle.std.specs.Prelude.{◌≡◌, ◌≤◌, ℤ, ◌<ℤ◌, ◌≤ℤ◌, length, List, [], ◌∷◌, ◌++◌, Bool, FitsSigned}
 use Rattle.std.specs.Int.{w32}
 use Rattle.region.specs.declared.step.Step.{Step}
 use Rattle.region.specs.Steps.{value_at, final_value, BeginsAfter, AllValid, IsReduced}
@@ -37,16 +37,19 @@ pub record IsCombined {V : Type 0} (holds : V → ℤ → Bool) (valid : V → T
   pub fits : AllFit r
   pub final : (x : ℤ) → holds (final_value empty r) x ≡ op (holds (final_value empty a) x) (holds (final_value empty b) x)
 
--- what is left of the steps after a place, and the value there
-pub record IsAdvanced {V : Type 0} (valid : V → Type 0) (steps : List (Step V)) (value : V) (place : ℤ) (rest : List (Step V)) (current : V) : Type 0 where
+-- what is left of the steps after some that begin at a place or before it, and the value there
+pub record IsPassed {V : Type 0} (valid : V → Type 0) (steps : List (Step V)) (value : V) (place : ℤ) (rest : List (Step V)) (current : V) : Type 0 where
   pub later : (y : ℤ) → place ≤ℤ y → value_at value steps y ≡ value_at current rest y
   pub final : final_value value steps ≡ final_value current rest
-  pub after : BeginsAfter place rest
   pub ordered : IsOrdered rest
   pub values : AllValid valid rest
   pub current_is_valid : valid current
   pub shorter : length rest ≤ length steps
-  pub taken : BeginsAt place steps → length rest < length steps
+
+-- what is left of the steps after a place, and the value there
+pub record IsAdvanced {V : Type 0} (valid : V → Type 0) (steps : List (Step V)) (value : V) (place : ℤ) (rest : List (Step V)) (current : V) : Type 0 where
+  pub passed : IsPassed valid steps value place rest current
+  pub after : BeginsAfter place rest
 
 -- a step can be put after others
 pub record CanPush {V : Type 0} (valid : V → Type 0) (steps : List (Step V)) (step : Step V) : Type 0 where

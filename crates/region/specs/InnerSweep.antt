@@ -1,8 +1,10 @@
 -- Inside the crate: how far a sweep over two lists of steps has come.
-use Rattle.std.specs.Prelude.{◌≡◌, ℤ, List, [], ◌∷◌, Bool, if◌then◌else◌, int_lt}
+use Rattle.std.specs.Prelude.{◌≡◌, ◌≤◌, ℤ, length, List, [], ◌∷◌, Bool, if◌then◌else◌, int_lt}
 use Rattle.region.specs.declared.step.Step.{Step}
+use Rattle.region.specs.declared.operation.Operation.{Operation}
+use Rattle.region.specs.Operation.{holds_after}
 use Rattle.region.specs.Steps.{value_at, final_value, AllValid, IsReduced}
-use Rattle.region.specs.InnerSteps.{EndsBefore, IsOrdered, AllFit}
+use Rattle.region.specs.InnerSteps.{BeginsFrom, EndsBefore, IsOrdered, AllFit}
 
 -- where the steps hold, and from the last one on what others say
 abbrev pub before_or : {V : Type 0} → (V → ℤ → Bool) → V → List (Step V) → (ℤ → ℤ → Bool) → ℤ → ℤ → Bool
@@ -12,6 +14,26 @@ before_or holds v (s ∷ steps) rest y x = if int_lt y s.from then holds v x els
 -- an operation on two lists of steps, point by point
 abbrev pub both : {V : Type 0} → (V → ℤ → Bool) → (Bool → Bool → Bool) → V → List (Step V) → V → List (Step V) → ℤ → ℤ → Bool
 both holds op v a w b y x = op (holds (value_at v a y) x) (holds (value_at w b y) x)
+
+-- the left operand gives the result of an operation, whatever the right one is
+abbrev pub LeftDecides : Operation → Bool → Type 0
+LeftDecides operation a = (b c : Bool) → holds_after operation a b ≡ holds_after operation a c
+
+-- the right operand gives it, whatever the left one is
+abbrev pub RightDecides : Operation → Bool → Type 0
+RightDecides operation b = (a c : Bool) → holds_after operation a b ≡ holds_after operation c b
+
+-- the operation stays the same where some steps of one operand are passed over
+pub record IsSkipped {V : Type 0} (holds : V → ℤ → Bool) (valid : V → Type 0) (op : Bool → Bool → Bool) (steps : List (Step V)) (value : V)
+    (others : List (Step V)) (other : V) (rest : List (Step V)) (current : V) : Type 0 where
+  pub points : (x y : ℤ) → both holds op value steps other others y x ≡ both holds op current rest other others y x
+  pub now : (x : ℤ) → op (holds value x) (holds other x) ≡ op (holds current x) (holds other x)
+  pub final : final_value value steps ≡ final_value current rest
+  pub begins : (z : ℤ) → BeginsFrom z steps → BeginsFrom z rest
+  pub ordered : IsOrdered rest
+  pub values : AllValid valid rest
+  pub current_is_valid : valid current
+  pub shorter : length rest ≤ length steps
 
 -- all steps are before the first of others
 abbrev pub ComesBefore : {V : Type 0} → List (Step V) → List (Step V) → Type 0

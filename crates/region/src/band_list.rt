@@ -1,6 +1,7 @@
 //! Bands from top to bottom, and the number of their rectangles.
 
 ghost use Rattle.std.specs.Prelude.{◌≡◌, ◌<◌, ◌+◌, ◌/◌, ◌^◌, ◌∷◌, ◌++◌, [], OnOk, nat_lt};
+ghost use Rattle.region.specs.Limits.{most_rects};
 ghost use Rattle.region.specs.Steps.{final_value};
 ghost use Rattle.region.specs.InnerSteps.{CanPush};
 ghost use Rattle.region.specs.InnerColumns.{IsColumns, columns_of};
@@ -13,7 +14,7 @@ use crate::sweep::{Output, last_value};
 use std::alloc::{AllocError, Global};
 
 /// The most rectangles of a region.
-const MOST_RECTANGLES: u64 = 4096;
+pub const MOST_RECTS: u64 = 4_096;
 
 /// Bands from top to bottom, with the number of their rectangles; past the limit only the last band is kept.
 #[derive(Drop)]
@@ -37,9 +38,9 @@ impl BandList {
     /// Whether this and so many rectangles more are too many.
     pub fn is_past(&self, more: u64) -> bool
         requires { self.now.count + more < 2 ^ 64 }
-        ensures { result ≡ nat_lt 4096 (self.now.count + more) }
+        ensures { result ≡ nat_lt most_rects (self.now.count + more) }
     {
-        self.count + more > MOST_RECTANGLES
+        self.count + more > MOST_RECTS
     }
 
     /// Counts the rectangles of a band and keeps none.
@@ -79,7 +80,7 @@ impl Output<Vec<Step<bool>>> for BandList {
             IsKept columns_of (bands ++ step ∷ []) self.new.bands.items self.new.count) }
     {
         self.count += step.value.len() as u64 / 2;
-        if self.count > MOST_RECTANGLES {
+        if self.count > MOST_RECTS {
             self.bands.clear();
         }
         self.bands.push(step)?;

@@ -1,6 +1,8 @@
 //! Operations on small regions, and the limit.
 
-ghost use Rattle.std.specs.Prelude.{◌<◌};
+ghost use Rattle.std.specs.Prelude.{◌<◌, ℤ, List, IfOk};
+ghost use Rattle.geom_base.specs.declared.rect.Rect.{Rect};
+ghost use Rattle.region.specs.Builder.{HasRows};
 
 use super::*;
 use geom_base::{Point, Rect};
@@ -145,6 +147,46 @@ fn moved_tested_and_clipped(rt: HostRuntime) -> Result<(), Fail> {
 }
 
 #[test]
+fn meets_rectangles(rt: HostRuntime) -> Result<(), Fail> {
+    let rects = [rect(0, 0, 4, 2), rect(6, 0, 8, 2), rect(0, 4, 2, 6)];
+    let region = Region::from_rects(rt.alloc(), &rects)?;
+    for (met, want) in [
+        (rect(4, 0, 6, 2), false),
+        (rect(3, 1, 4, 2), true),
+        (rect(4, 1, 7, 2), true),
+        (rect(4, -9, 7, 1), true),
+        (rect(0, 2, 9, 4), false),
+        (rect(0, 2, 1, 5), true),
+        (rect(2, 3, 9, 9), false),
+        (rect(-5, -5, 0, 0), false),
+        (rect(-5, -5, 1, 1), true),
+        (rect(0, 6, 2, 9), false),
+        (rect(1, 5, 2, 6), true),
+        (rect(3, 1, 3, 2), false),
+        (rect(0, 1, 4, 1), false),
+        (rect(3, 0, 1, 2), false),
+        (rect(i32::MIN, i32::MIN, i32::MAX, i32::MAX), true),
+    ] {
+        assert_eq!(rt; region.meets(&met), want, "{met:?}");
+    }
+    Ok(())
+}
+
+#[test]
+fn the_extents_of_regions(rt: HostRuntime) -> Result<(), Fail> {
+    let alloc = rt.alloc();
+    let corner = Region::from_rects(alloc, &[rect(0, 0, 4, 2), rect(0, 2, 2, 4)])?;
+    assert_eq!(rt; corner.extents(), rect(0, 0, 4, 4));
+    let far = Region::from_rects(alloc, &[rect(6, -3, 7, -1)])?;
+    assert_eq!(rt; corner.union(alloc, &far)?.extents(), rect(0, -3, 7, 4));
+    assert_eq!(rt; corner.subtract(alloc, &far)?.extents(), rect(0, 0, 4, 4));
+    let none = corner.intersect(alloc, &far)?;
+    assert!(rt; none.rects().is_empty());
+    assert!(rt; !none.extents().has_points());
+    Ok(())
+}
+
+#[test]
 fn moved_to_the_last_edges(rt: HostRuntime) -> Result<(), Fail> {
     let region = Region::from_rects(rt.alloc(), &[rect(0, 0, 4, 2), rect(0, 2, 2, 4)])?;
     for (x, y, want) in [
@@ -232,5 +274,54 @@ fn the_rectangles_of_bounds(rt: HostRuntime) -> Result<(), AllocError> {
     assert!(rt; !fills_bounds(&rects, &rect(1, 2, 5, 10)));
     let none = rects_of_bounds(rt.alloc(), &rect(1, 2, 1, 9))?;
     assert!(rt; none.is_empty());
+    Ok(())
+}
+
+#[test]
+fn built_row_by_row(rt: HostRuntime) -> Result<(), Fail> {
+    let mut builder = RegionBuilder::new(rt.alloc());
+    builder.push_row(
+        0,
+        2,
+        &[
+            Span { left: 0, right: 3 },
+            Span { left: 3, right: 5 },
+            Span { left: 7, right: 9 },
+        ],
+    )?;
+    builder.push_row(
+        2,
+        4,
+        &[Span { left: 0, right: 5 }, Span { left: 7, right: 9 }],
+    )?;
+    builder.push_row(6, 7, &[Span { left: 1, right: 2 }])?;
+    let want = [rect(0, 0, 5, 4), rect(7, 0, 9, 4), rect(1, 6, 2, 7)];
+    assert_eq!(rt; builder.finish()?.rects(), want.as_slice());
+    Ok(())
+}
+
+/// So many rows of one column, where every two are equal and the next two are not.
+fn rows_in_pairs(alloc: Global, count: u32) -> Result<RegionBuilder, AllocError>
+    requires { count < 10000 }
+    ensures { IfOk result (λ r. (pushed : List Rect) × (end : ℤ) × HasRows pushed end r) }
+{
+    let mut builder = RegionBuilder::new(alloc);
+    for i in 0..count {
+        let left = (i / 2 % 2) as i32;
+        let right = left + 1;
+        builder.push_row(i as i32, i as i32 + 1, &[Span { left, right }])?;
+    }
+    Ok(builder)
+}
+
+#[test]
+fn built_past_the_limit(rt: HostRuntime) -> Result<(), Fail> {
+    let alloc = rt.alloc();
+    let region = rows_in_pairs(alloc, 8192)?.finish()?;
+    assert_eq!(rt; region.rects().len(), 4096);
+    let many = rows_in_pairs(alloc, 8193)?.finish().err();
+    assert_eq!(rt; many, Some(RegionRefusal::TooMany(4097)));
+    let more = rows_in_pairs(alloc, 8194)?.finish().err();
+    assert_eq!(rt; more, Some(RegionRefusal::TooMany(4097)));
     Ok(())
 }

@@ -1,6 +1,6 @@
 //! What the words ask for.
 
-use geom_base::Rect;
+use geom_base::{Point, Rect};
 use region::{Region, RegionRefusal};
 use std::alloc::{AllocError, Global};
 
@@ -18,11 +18,14 @@ fn rects_of(alloc: Global, edges: &[i32]) -> Result<Vec<Rect>, AllocError> {
     Ok(rects)
 }
 
-/// The result of the operation of a name; of another name, the first region.
+/// How far a region is moved.
+const BY: Point = Point { x: 1, y: 1 };
+
+/// The result of the operation of a name; of another name, the first region made anew of its rectangles.
 pub fn combined(
     alloc: Global,
     name: &str,
-    first: Region,
+    first: &Region,
     second: &Region,
 ) -> Result<Region, RegionRefusal> {
     match name {
@@ -30,7 +33,8 @@ pub fn combined(
         "intersect" => first.intersect(alloc, second),
         "subtract" => first.subtract(alloc, second),
         "xor" => first.xor(alloc, second),
-        _ => Ok(first),
+        "offset" if first.can_offset(BY) => first.offset(alloc, BY),
+        _ => Region::from_rects(alloc, first.rects()),
     }
 }
 
@@ -44,5 +48,5 @@ pub fn asked(
     let (first, second) = edges.split_at((4 * count as usize).min(edges.len()));
     let first = Region::from_rects(alloc, &rects_of(alloc, first)?)?;
     let second = Region::from_rects(alloc, &rects_of(alloc, second)?)?;
-    combined(alloc, name, first, &second)
+    combined(alloc, name, &first, &second)
 }

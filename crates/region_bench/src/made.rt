@@ -51,5 +51,5 @@ fn add_rows(rects: &mut Vec<Rect>, count: u16, right: i32) -> Result<(), AllocEr
 pub fn stacked(alloc: Global, name: &str, count: u16) -> Result<Region, RegionRefusal> {
     let above = Region::from_rects(alloc, &columns(alloc, count, 0, 1)?)?;
     let below = Region::from_rects(alloc, &columns(alloc, count, 1, 2)?)?;
-    combined(alloc, name, above, &below)
+    combined(alloc, name, &above, &below)
 }

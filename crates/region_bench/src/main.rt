@@ -3,14 +3,20 @@
 //!
 //! Without edges both are made of so many columns, those of the second right below those of the first. `line` is one region of such
 //! columns, `grid` one of so many columns across as many rows; of these the number is printed.
+//!
+//! With a shape (rows, columns, checkers, combs) and a number in the place of the edges both are made of so many rectangles of that
+//! shape, and the operation is done so often and once more: union, intersect, subtract, xor, offset, or rects, which makes the first
+//! region anew. The number of the last result's rectangles is printed.
 #![tactic(auto)]
 
 mod asked;
 mod made;
+mod shapes;
 
 use asked::asked;
 use made::{grid, line, stacked};
 use region::{Region, RegionRefusal};
+use shapes::{repeated, shape_named};
 use std::process::ExitCode;
 use std::{env, io};
 
@@ -36,23 +42,36 @@ fn print_count(rt: &HostRuntime, region: &Result<Region, RegionRefusal>) -> io::
     }
 }
 
+/// The number of a word, 0 where it is none.
+fn number(word: &String) -> i32 {
+    word.as_str().parse::<i32>().unwrap_or(0)
+}
+
 fn run(rt: &HostRuntime) -> io::Result<()> {
     let alloc = rt.alloc();
     let mut words = env::args(rt)?.skip(1);
     let (Some(name), Some(count)) = (words.next(), words.next()) else {
-        return println!(rt; "usage: region_bench OPERATION COUNT EDGES..");
+        return println!(rt;
+            "usage: region_bench OPERATION COUNT EDGES.. or OPERATION COUNT SHAPE TIMES"
+        );
     };
+    let name = name.as_str();
     let count = count.as_str().parse::<u16>().unwrap_or(0);
     let mut edges = Vec::new(alloc);
-    for word in words {
-        if edges
-            .push(word.as_str().parse::<i32>().unwrap_or(0))
-            .is_err()
-        {
+    if let Some(word) = words.next() {
+        if let Some(shape) = shape_named(word.as_str()) {
+            let times = words.next().map_or(0, |word| number(&word));
+            return print_count(rt, &repeated(alloc, name, shape, count, times));
+        }
+        if edges.push(number(&word)).is_err() {
             return println!(rt; "no memory");
         }
     }
-    let name = name.as_str();
+    for word in words {
+        if edges.push(number(&word)).is_err() {
+            return println!(rt; "no memory");
+        }
+    }
     match name {
         "line" => print_count(rt, &line(alloc, count)),
         "grid" => print_count(rt, &grid(alloc, count)),

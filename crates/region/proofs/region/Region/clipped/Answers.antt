@@ -1,27 +1,33 @@
-use Rattle.std.proofs.Common.{◌∙◌, sym, ap, subst, ◌&&◌}
+use Rattle.std.proofs.Common.{◌≡◌, ◌∙◌, List, sym, subst, ◌&&◌, IsTrue}
+use Rattle.geom_base.specs.declared.point.Point.{Point}
+use Rattle.geom_base.specs.declared.rect.Rect.{Rect}
 use Rattle.geom_base.specs.Points.{is_in, is_in_some}
+use Rattle.geom_base.specs.PointLaws.{is_in-IsIn}
 use Rattle.region.specs.InnerColumns.{columns_of}
-use Rattle.region.specs.Band.{rects_of, has_point}
-use Rattle.region.specs.InnerBand.{lists_of}
-use Rattle.region.specs.InnerBand.{IsListed}
-use Rattle.region.proofs.UniqueLemmas.{ok_also}
+use Rattle.region.specs.Region.{IsRegionOf}
+use Rattle.region.proofs.BoundsLemmas.{rect_decides}
+use Rattle.region.proofs.ExtentLemmas.{all_inside}
 use Rattle.region.proofs.OrderLemmas.{region_in_order}
-use Rattle.region.proofs.RegionLemmas.{listed_points, bands_region, region_same}
+use Rattle.region.proofs.RegionLemmas.{listed_is_region}
+use Rattle.region.proofs.UniqueLemmas.{ok_also}
 use Rattle.region.proofs.region.Region.clipped.Goals as goal
 
-pub returns-clause-region : goal.returns-clause-region
-returns-clause-region c =
-    let left = subst (λ l. IsListed columns_of l c.args.self.now) (sym c.deref.ensures.value)
-    (subst (IsListed columns_of c.self.inside.bands.items) c.self.view_is c.self.invariant) in
-    ok_also _ _ c.rects_of_bands.result
-    (λ r h. region_same (has_point (lists_of columns_of c.in_ok-bands.ensures.0)) (λ p. is_in_some p c.args.self.now && is_in p c.args.bounds.now)
-    (λ p. c.in_ok-bands.ensures.2.points p
-    ∙ ap (λ u. u && has_point (lists_of columns_of c.deref-2.result.now) p) (sym (listed_points columns_of c.deref.result.now c.args.self.now left p))
-    ∙ ap (λ u. is_in_some p c.args.self.now && u)
-    (ap (λ b. has_point (lists_of columns_of b) p) c.deref-2.ensures.value ∙ c.in_ok-frame.ensures.points p)) r.items
-    (bands_region columns_of c.in_ok-bands.ensures.0 r.items c.in_ok-bands.ensures.2.held.canonical
-    (h ∙ ap (rects_of columns_of) (c.deref-3.ensures.value ∙ c.in_ok-bands.ensures.1))))
-    c.rects_of_bands.ensures
+pub returns-then-eq-clause-region : goal.returns-then-eq-clause-region
+returns-then-eq-clause-region c =
+    let rects = c.self.inside.rects.items in
+    let canonical = listed_is_region columns_of c.self.inside.bands.items rects c.self.invariant.listed in
+    let same : c.intersect.result ≡ c.self.inside.extents = (rect_decides c.intersect.result c.self.inside.extents).0 (sym c.eq.ensures ∙ c.if-eq.true) in
+    let within = λ (p : Point) (t : IsTrue (is_in p c.self.inside.extents)).
+    (is_in-IsIn p c.args.bounds.now).1
+    ((c.intersect.ensures.common p).0 ((is_in-IsIn p c.intersect.result).0 (subst (λ (r : Rect). IsTrue (is_in p r)) (sym same) t))).1 in
+    let own : IsRegionOf (λ p. is_in_some p rects && is_in p c.args.bounds.now) rects = record {
+      canonical = canonical;
+      points = λ p. all_inside rects c.self.inside.extents c.args.bounds.now c.self.invariant.extents within p;
+    } in
+    let whole = subst (λ (s : List Rect). IsRegionOf (λ p. is_in_some p s && is_in p c.args.bounds.now) rects) c.self.view_is own in
+    ok_also _ _ c.from_slice.result
+    (λ r e. subst (IsRegionOf (λ p. is_in_some p c.args.self.now && is_in p c.args.bounds.now)) (sym (e ∙ c.deref.ensures.value)) whole)
+    c.from_slice.ensures.items
 
-pub returns-clause-in_order : goal.returns-clause-in_order
-returns-clause-in_order c = ok_also _ _ c.rects_of_bands.result (λ r h. region_in_order r.items h.canonical) (returns-clause-region c)
+pub returns-then-eq-clause-in_order : goal.returns-then-eq-clause-in_order
+returns-then-eq-clause-in_order c = ok_also _ _ c.from_slice.result (λ r h. region_in_order r.items h.canonical) (returns-then-eq-clause-region c)

@@ -1,0 +1,42 @@
+//! Rectangles seen from a point.
+
+ghost use Rattle.std.specs.Prelude.{◌≡◌, map};
+ghost use Rattle.std.specs.List.{All};
+ghost use Rattle.geom_base.specs.Points.{moved_rect};
+ghost use Rattle.region.specs.Moved.{CanMove};
+ghost use Rattle.clip_obj.specs.Clip.{to_origin};
+
+use geom_base::{Point, Rect};
+
+/// The rectangle moved so that a point becomes 0 0.
+pub fn seen_from(at: &Point, rect: &Rect) -> Rect
+    requires { CanMove (to_origin at.now) rect.now }
+    ensures { result ≡ moved_rect rect.now (to_origin at.now) }
+{
+    Rect {
+        left: rect.left - at.x,
+        top: rect.top - at.y,
+        right: rect.right - at.x,
+        bottom: rect.bottom - at.y,
+    }
+}
+
+/// Moves rectangles so that a point becomes 0 0.
+fn move_to_origin(rects: &mut [Rect], at: &Point)
+    requires { All (CanMove (to_origin at.now)) rects.old }
+    ensures { rects.new ≡ map (λ r. moved_rect r (to_origin at.now)) rects.old }
+{
+    for i in 0..rects.len() {
+        rects[i] = seen_from(at, &rects[i]);
+    }
+}
+
+/// The rectangles moved so that a point becomes 0 0.
+pub fn all_seen_from(at: &Point, rects: Vec<Rect>) -> Vec<Rect>
+    requires { All (CanMove (to_origin at.now)) rects.items }
+    ensures { result.items ≡ map (λ r. moved_rect r (to_origin at.now)) rects.items }
+{
+    let mut moved = rects;
+    move_to_origin(&mut moved, at);
+    moved
+}

@@ -1,0 +1,23 @@
+-- Inside the crate: how the smallest rectangle around others is found, and what a region keeps.
+use Rattle.std.specs.Prelude.{◌↔◌, ◌≤ℤ◌, List, Bool}
+use Rattle.std.specs.List.{All}
+use Rattle.geom_base.specs.declared.rect.Rect.{Rect}
+use Rattle.region.specs.declared.step.Step.{Step}
+use Rattle.region.specs.InnerBand.{IsListed}
+use Rattle.region.specs.Extents.{AreExtents}
+
+-- no edge of a rectangle is outside the other
+pub record Surrounds (outer r : Rect) : Type 0 where
+  pub left : outer.left ≤ℤ r.left
+  pub top : outer.top ≤ℤ r.top
+  pub right : r.right ≤ℤ outer.right
+  pub bottom : r.bottom ≤ℤ outer.bottom
+
+-- what surrounds the rectangle and the rest is what surrounds all
+abbrev pub IsAround : List Rect → List Rect → Rect → Type 0
+IsAround rects rest r = (outer : Rect) → (Surrounds outer r × All (Surrounds outer) rest) ↔ All (Surrounds outer) rects
+
+-- what a region keeps
+pub record IsKeptRegion {V : Type 0} (columns : V → List (Step Bool)) (bands : List (Step V)) (rects : List Rect) (smallest : Rect) : Type 0 where
+  pub listed : IsListed columns bands rects
+  pub extents : AreExtents rects smallest
