@@ -1,5 +1,6 @@
 -- What a raster operation gives, as its call says it.
-use Rattle.std.proofs.Common.{◌≡◌, ℕ, List, Bool, true, false, cond, ◌&&◌, ◌==◌, ◌^◌, ◌<◌, refl, sym, ap, ◌∙◌, IsTrue, Option, Some, None, IfSome, option_map, unwrap_or, rules}
+use Rattle.std.proofs.Common.{◌≡◌, ℕ, List, Bool, true, false, cond, ◌&&◌, ◌==◌, ◌^◌, ◌<◌, refl, sym, ap, ◌∙◌, IsTrue}
+use Rattle.std.proofs.Common.{Option, Some, None, IfSome, option_map, unwrap_or, rules}
 use Rattle.std.specs.Borrow.{Bor}
 use Rattle.geom_base.specs.declared.point.Point.{Point}
 use Rattle.geom_base.specs.declared.size.Size.{Size}

@@ -39,7 +39,7 @@ pub gives : (d : Drawing) (dst : LentSurf) (x y : ℕ) (values : List ℕ) →
     GivesRun d dst x y values
 gives d dst x y values same = record {
   values = same;
-  fit = All-from_get_or (λ v. v < 2 ^ bits_of (format_of dst)) values 0
+  fits = All-from_get_or (λ v. v < 2 ^ bits_of (format_of dst)) values 0
       (λ k h. subst (λ v. v < 2 ^ bits_of (format_of dst)) (sym (same k h)) (rop3_of-lt _ _ _ _ (bits_of (format_of dst))));
 }
 

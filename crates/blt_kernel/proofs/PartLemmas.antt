@@ -1,5 +1,6 @@
 -- A drawing made of its parts.
-use Rattle.std.proofs.Common.{◌≡◌, ℕ, pos, ◌*◌, ◌<◌, ◌≤◌, Bool, true, false, ◌||◌, ◌&&◌, ◌==◌, List, length, refl, sym, ap, ◌∙◌, subst, arith, Option, Some, None, IfSome, unsigned_abs}
+use Rattle.std.proofs.Common.{◌≡◌, ℕ, pos, ◌*◌, ◌<◌, ◌≤◌, Bool, true, false, ◌||◌, ◌&&◌, ◌==◌, List, length, refl, sym}
+use Rattle.std.proofs.Common.{ap, ◌∙◌, subst, arith, Option, Some, None, IfSome, unsigned_abs}
 use Rattle.std.specs.Borrow.{Bor}
 use Rattle.std.proofs.lemmas.Bool.Decides.{nat_tests}
 use Rattle.std.proofs.lemmas.Int.{ints}
@@ -19,7 +20,7 @@ use Rattle.surf_obj.specs.declared.lent.LentSurf.{LentSurf}
 use Rattle.surf_obj.specs.declared.view.LentView.{LentView}
 use Rattle.surf_obj.specs.LentLaws.{OnlyPixels-size, OnlyPixels-format, length-values_of}
 use Rattle.blt_kernel.specs.InnerShift.{place_shifted, Reaches, value_shifted}
-use Rattle.blt_kernel.specs.InnerDrawing.{CanDraw, SourceFits, MaskFits, IsDrawn, drawn, source_or_zero, mask_or_zero, pattern_at, size_from, values_from}
+use Rattle.blt_kernel.specs.InnerDrawing.{HasOperands, SourceFits, MaskFits, IsDrawn, drawn, source_or_zero, mask_or_zero, pattern_at, size_from, values_from}
 use Rattle.blt_kernel.specs.InnerOrder.{KeepsSource, KeepsOwnSource}
 use Rattle.blt_kernel.specs.declared.shift.Shift.{Shift}
 use Rattle.blt_kernel.specs.declared.drawing.Drawing.{Drawing}
@@ -52,9 +53,9 @@ mask_part : (m : Option Mask) (l t r b l' t' r' b' : ℕ) → IfSome m (MaskFits
 mask_part None l t r b l' t' r' b' h hl ht hr hb = tt
 mask_part (Some m) l t r b l' t' r' b' h hl ht hr hb = Reaches-part m.shift _ l t r b l' t' r' b' h hl ht hr hb
 
-pub CanDraw-part : (d : Drawing) (size : Size) (format : Format) (l t r b l' t' r' b' : ℕ) → CanDraw d size format l t r b → l ≤ l' → t ≤ t' → r' ≤ r → b' ≤ b →
-    CanDraw d size format l' t' r' b'
-CanDraw-part d size format l t r b l' t' r' b' h hl ht hr hb = record {
+pub HasOperands-part : (d : Drawing) (size : Size) (format : Format) (l t r b l' t' r' b' : ℕ) → HasOperands d size format l t r b →
+    l ≤ l' → t ≤ t' → r' ≤ r → b' ≤ b → HasOperands d size format l' t' r' b'
+HasOperands-part d size format l t r b l' t' r' b' h hl ht hr hb = record {
   columns = omega (arith, h.columns);
   rows = omega (arith, h.rows);
   source = source_part d.source size format l t r b l' t' r' b' h.source hl ht hr hb;
@@ -63,11 +64,11 @@ CanDraw-part d size format l t r b l' t' r' b' h hl ht hr hb = record {
 }
 
 -- the same of a surface in which only pixels changed
-pub CanDraw-kept : (d : Drawing) (start now : LentSurf) (l t r b : ℕ) → OnlyPixels start now → CanDraw d (size_of start) (format_of start) l t r b →
-    CanDraw d (size_of now) (format_of now) l t r b
-CanDraw-kept d start now l t r b only can =
-    subst (λ (f : Format). CanDraw d (size_of now) f l t r b) (sym (OnlyPixels-format start now only))
-    (subst (λ (s : Size). CanDraw d s (format_of start) l t r b) (sym (OnlyPixels-size start now only)) can)
+pub HasOperands-kept : (d : Drawing) (start now : LentSurf) (l t r b : ℕ) → OnlyPixels start now → HasOperands d (size_of start) (format_of start) l t r b →
+    HasOperands d (size_of now) (format_of now) l t r b
+HasOperands-kept d start now l t r b only can =
+    subst (λ (f : Format). HasOperands d (size_of now) f l t r b) (sym (OnlyPixels-format start now only))
+    (subst (λ (s : Size). HasOperands d s (format_of start) l t r b) (sym (OnlyPixels-size start now only)) can)
 
 -- a source that was not drawn on yet has the values that it had
 value_kept : (lent : Option (Bor LentView)) (shift : Shift) (forward : Bool) (size : Size) (old now : List ℕ) (done : Point → Bool) (new : Point → ℕ → Option ℕ)
@@ -104,7 +105,7 @@ lists_more : (d : Drawing) (forward : Bool) (size size' : Size) (format format' 
     size' ≡ size → format' ≡ format → length old ≡ size.w * size.h →
     now ≡ redrawn size old (λ p. is_in p done) (drawn d size format old) →
     next ≡ redrawn size' now (λ p. is_in p (box_of l t r b)) (drawn d size' format' now) →
-    CanDraw d size format l t r b → KeepsSource d.source forward →
+    HasOperands d size format l t r b → KeepsSource d.source forward →
     ((x y : ℕ) → (is_in (point_at x y) both ≡ (is_in (point_at x y) done || is_in (point_at x y) (box_of l t r b)))
     × ((is_in (point_at x y) done && is_in (point_at x y) (box_of l t r b)) ≡ false)) →
     ((x y sx sy : ℕ) → is_in (point_at x y) (box_of l t r b) ≡ true → NotBefore forward x y sx sy → is_in (point_at sx sy) done ≡ false) →
@@ -121,7 +122,7 @@ lists_more d forward size size' format format' old now next done both l t r b es
 -- one part more of a drawing
 pub drawn_more : (d : Drawing) (forward : Bool) (start now next : LentSurf) (done both : Rect) (l t r b : ℕ) → OnlyPixels start now →
     values_of now ≡ redrawn (size_of start) (values_of start) (λ p. is_in p done) (drawn d (size_of start) (format_of start) (values_of start)) →
-    IsDrawn d l t r b now next → CanDraw d (size_of start) (format_of start) l t r b → KeepsSource d.source forward →
+    IsDrawn d l t r b now next → HasOperands d (size_of start) (format_of start) l t r b → KeepsSource d.source forward →
     ((x y : ℕ) → (is_in (point_at x y) both ≡ (is_in (point_at x y) done || is_in (point_at x y) (box_of l t r b)))
     × ((is_in (point_at x y) done && is_in (point_at x y) (box_of l t r b)) ≡ false)) →
     ((x y sx sy : ℕ) → is_in (point_at x y) (box_of l t r b) ≡ true → NotBefore forward x y sx sy → is_in (point_at sx sy) done ≡ false) →

@@ -14,7 +14,7 @@ use Rattle.geom_base.specs.StepLaws.{redrawn_grid, redrawn_none}
 use Rattle.surf_obj.specs.LentLaws.{length-values_of}
 use Rattle.brush_obj.specs.Calls.{point_across}
 use Rattle.blt_kernel.specs.InnerBoxes.{box_from, ArePart, HasPoint, LieIn, SourceReaches, MaskReaches}
-use Rattle.blt_kernel.specs.InnerDrawing.{CanDraw, SourceFits, MaskFits, IsTranslated, size_from, drawn}
+use Rattle.blt_kernel.specs.InnerDrawing.{HasOperands, SourceFits, MaskFits, IsTranslated, size_from, drawn}
 use Rattle.brush_obj.specs.Ink.{InkFits}
 use Rattle.blt_kernel.specs.InnerReadable.{is_readable, source_is_readable, mask_is_readable, drawn_readable}
 use Rattle.blt_kernel.specs.declared.shift.Shift.{Shift}
@@ -98,7 +98,7 @@ pub can_draw : (d : Drawing) (size : Size) (format : Format) (edges readable the
     ArePart readable there → HasPoint there →
     (HasPoint readable → IfSome d.source (SourceReaches size readable)) → (HasPoint there → IfSome d.mask (MaskReaches there)) →
     IfSome d.source (IsTranslated format) → InkFits d.ink format →
-    CanDraw d size format there.left there.top there.right there.bottom
+    HasOperands d size format there.left there.top there.right there.bottom
 can_draw d size format edges readable there lie first second some source mask translated ink = record {
   columns = omega (arith, lie.right, first.right, second.right);
   rows = omega (arith, lie.bottom, first.bottom, second.bottom);

@@ -75,7 +75,7 @@ drawn d size format values p old = Some (drawn_value d size format values p old)
 pub record GivesRun (d : Drawing) (dst : LentSurf) (x y : ℕ) (run : List ℕ) : Type 0 where
   pub values : EachIndex run (λ k. slice_index run k ≡
       drawn_value d (size_of dst) (format_of dst) (values_of dst) (point_at (x + k) y) (value_at (size_of dst) (values_of dst) (x + k) y))
-  pub fit : All (λ v. v < 2 ^ bits_of (format_of dst)) run
+  pub fits : All (λ v. v < 2 ^ bits_of (format_of dst)) run
 
 -- a source is translated from its format to that of the target
 pub record IsTranslated (format : Format) (s : SourcePixels) : Type 0 where
@@ -92,7 +92,7 @@ abbrev pub MaskFits : ℕ → ℕ → ℕ → ℕ → Mask → Type 0
 MaskFits left top right bottom m = Reaches m.shift (view_size m.view.now) left top right bottom
 
 -- a drawing has all that it draws with for a box of a target of this size and format
-pub record CanDraw (d : Drawing) (size : Size) (format : Format) (left top right bottom : ℕ) : Type 0 where
+pub record HasOperands (d : Drawing) (size : Size) (format : Format) (left top right bottom : ℕ) : Type 0 where
   pub columns : right ≤ size.w
   pub rows : bottom ≤ size.h
   pub source : IfSome d.source (SourceFits size format left top right bottom)

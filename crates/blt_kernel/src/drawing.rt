@@ -5,7 +5,7 @@ ghost use Rattle.surf_obj.specs.Lent.{size_of, format_of};
 ghost use Rattle.blt_kernel.specs.InnerFills.{FillsWith, takes_pattern_alone};
 ghost use Rattle.blt_kernel.specs.InnerOrder.{KeepsSource};
 ghost use Rattle.blt_kernel.specs.InnerWays.{IsWayOf};
-ghost use Rattle.blt_kernel.specs.InnerDrawing.{CanDraw, IsDrawn, GivesRun};
+ghost use Rattle.blt_kernel.specs.InnerDrawing.{HasOperands, IsDrawn, GivesRun};
 
 use crate::edges::Edges;
 use crate::mask::Mask;
@@ -43,7 +43,7 @@ impl<'a> Drawing<'a> {
     /// Draws a run of at most 512 pixels.
     pub fn draw_run(&self, dst: &mut LentSurf<'_>, x: u32, y: u32, len: usize)
         requires short { len ≤ 512 }
-        requires able { CanDraw self.now (size_of dst.old) (format_of dst.old) x y (x + len) (y + 1) }
+        requires able { HasOperands self.now (size_of dst.old) (format_of dst.old) x y (x + len) (y + 1) }
         ensures { IsDrawn self.now x y (x + len) (y + 1) dst.old dst.new }
     {
         let mut values = [0; 512];
@@ -55,7 +55,7 @@ impl<'a> Drawing<'a> {
     /// How it goes along the rows of a box.
     pub fn way(&self, dst: &LentSurf<'_>, edges: &Edges) -> Way<'a>
         requires across { edges.now.left ≤ edges.now.right }
-        requires able { CanDraw self.now (size_of dst.now) (format_of dst.now) edges.now.left edges.now.top edges.now.right edges.now.bottom }
+        requires able { HasOperands self.now (size_of dst.now) (format_of dst.now) edges.now.left edges.now.top edges.now.right edges.now.bottom }
         ensures { IsWayOf self.now (format_of dst.now) edges.now.left result }
     {
         if let Some(value) = self.fill_value(dst.format()) {
@@ -86,7 +86,7 @@ impl<'a> Drawing<'a> {
     /// The new values of a run.
     fn combine(&self, dst: &LentSurf<'_>, x: u32, y: u32, values: &mut [u32])
         requires short { length values.old ≤ 512 }
-        requires able { CanDraw self.now (size_of dst.now) (format_of dst.now) x y (x + length values.old) (y + 1) }
+        requires able { HasOperands self.now (size_of dst.now) (format_of dst.now) x y (x + length values.old) (y + 1) }
         ensures { GivesRun self.now dst.now x y values.new }
     {
         match self.mask {
@@ -106,7 +106,7 @@ impl<'a> Drawing<'a> {
     )
         requires mask { self.now.mask ≡ Some mask.now }
         requires short { length values.old ≤ 512 }
-        requires able { CanDraw self.now (size_of dst.now) (format_of dst.now) x y (x + length values.old) (y + 1) }
+        requires able { HasOperands self.now (size_of dst.now) (format_of dst.now) x y (x + length values.old) (y + 1) }
         ensures { GivesRun self.now dst.now x y values.new }
     {
         let len = values.len();
@@ -128,7 +128,7 @@ impl<'a> Drawing<'a> {
     fn combine_unmasked(&self, dst: &LentSurf<'_>, x: u32, y: u32, values: &mut [u32])
         requires mask { self.now.mask ≡ None }
         requires short { length values.old ≤ 512 }
-        requires able { CanDraw self.now (size_of dst.now) (format_of dst.now) x y (x + length values.old) (y + 1) }
+        requires able { HasOperands self.now (size_of dst.now) (format_of dst.now) x y (x + length values.old) (y + 1) }
         ensures { GivesRun self.now dst.now x y values.new }
     {
         match self.source {
@@ -142,7 +142,7 @@ impl<'a> Drawing<'a> {
         requires mask { self.now.mask ≡ None }
         requires source { self.now.source ≡ None }
         requires short { length values.old ≤ 512 }
-        requires able { CanDraw self.now (size_of dst.now) (format_of dst.now) x y (x + length values.old) (y + 1) }
+        requires able { HasOperands self.now (size_of dst.now) (format_of dst.now) x y (x + length values.old) (y + 1) }
         ensures { GivesRun self.now dst.now x y values.new }
     {
         let code = self.rop.code_where_clear();
@@ -173,7 +173,7 @@ impl<'a> Drawing<'a> {
         requires mask { self.now.mask ≡ None }
         requires source { self.now.source ≡ Some source.now }
         requires short { length values.old ≤ 512 }
-        requires able { CanDraw self.now (size_of dst.now) (format_of dst.now) x y (x + length values.old) (y + 1) }
+        requires able { HasOperands self.now (size_of dst.now) (format_of dst.now) x y (x + length values.old) (y + 1) }
         ensures { GivesRun self.now dst.now x y values.new }
     {
         let code = self.rop.code_where_clear();

@@ -4,7 +4,7 @@ ghost use Rattle.std.specs.Prelude.{◌≡◌, ◌↔◌, ◌≤ℤ◌, pos, IsT
 ghost use Rattle.geom_base.specs.Points.{box_of};
 ghost use Rattle.blt_kernel.specs.InnerBoxes.{HasPoint};
 
-use geom_base::Rect;
+use geom_base::{Rect, coordinate};
 
 /// A rectangle whose columns and rows aren't negative.
 #[derive(Clone, Copy)]
@@ -38,12 +38,4 @@ impl Edges {
     {
         self.left < self.right && self.top < self.bottom
     }
-}
-
-/// A coordinate that isn't negative.
-fn coordinate(at: i32) -> u32
-    requires { pos 0 ≤ℤ at }
-    ensures { pos result ≡ at }
-{
-    at.unsigned_abs()
 }

@@ -1,7 +1,7 @@
 //! The part of a drawing for which source and mask are there.
 
 ghost use Rattle.std.specs.Prelude.{◌≡◌, ◌≤◌, ℕ, ◌&&◌, IfSome};
-ghost use Rattle.geom_base.specs.Points.{is_in, point_at};
+ghost use Rattle.geom_base.specs.Points.{is_in, point_at, most_side};
 ghost use Rattle.surf_obj.specs.Lent.{values_of, size_of, format_of, OnlyPixels};
 ghost use Rattle.geom_base.specs.Step.{redrawn};
 ghost use Rattle.blt_kernel.specs.InnerBoxes.{box_from, LieIn, ArePart, HasPoint, BoxReaches, SourceReaches, MaskReaches};
@@ -37,8 +37,8 @@ pub fn draw_readable(drawing: &Drawing<'_>, dst: &mut LentSurf<'_>, edges: &Edge
 /// The part of a box on a target of a size for which the source is there.
 fn cut_by_source(source: &Option<SourcePixels<'_>>, size: Size, edges: &Edges) -> Edges
     requires inside { LieIn size edges.now }
-    requires width { size.w ≤ 4096 }
-    requires height { size.h ≤ 4096 }
+    requires width { size.w ≤ most_side }
+    requires height { size.h ≤ most_side }
     ensures part { ArePart edges.now result }
     ensures points { (x y : ℕ) → is_in (point_at x y) (box_from result) ≡
         (is_in (point_at x y) (box_from edges.now) && source_is_readable source.now size (point_at x y)) }
@@ -53,9 +53,9 @@ fn cut_by_source(source: &Option<SourcePixels<'_>>, size: Size, edges: &Edges) -
 /// The part of a box for which the mask is there.
 fn cut_by_mask(mask: &Option<Mask<'_>>, edges: &Edges) -> Edges
     requires across { edges.now.left ≤ edges.now.right }
-    requires right { edges.now.right ≤ 4096 }
+    requires right { edges.now.right ≤ most_side }
     requires down { edges.now.top ≤ edges.now.bottom }
-    requires bottom { edges.now.bottom ≤ 4096 }
+    requires bottom { edges.now.bottom ≤ most_side }
     ensures part { ArePart edges.now result }
     ensures points { (x y : ℕ) → is_in (point_at x y) (box_from result) ≡
         (is_in (point_at x y) (box_from edges.now) && mask_is_readable mask.now (point_at x y)) }

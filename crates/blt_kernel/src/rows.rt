@@ -2,7 +2,7 @@
 
 ghost use Rattle.std.specs.Prelude.{◌≡◌, ◌≤◌, ◌<◌, ◌+◌, ◌-◌, if◌then◌else◌};
 ghost use Rattle.surf_obj.specs.Lent.{size_of, format_of};
-ghost use Rattle.blt_kernel.specs.InnerDrawing.{CanDraw, IsDrawn};
+ghost use Rattle.blt_kernel.specs.InnerDrawing.{HasOperands, IsDrawn};
 ghost use Rattle.blt_kernel.specs.InnerOrder.{KeepsSource};
 ghost use Rattle.blt_kernel.specs.InnerWays.{IsWayOf};
 
@@ -19,7 +19,7 @@ const RUN: u32 = 512;
 pub fn draw_box(drawing: &Drawing<'_>, dst: &mut LentSurf<'_>, edges: &Edges, forward: bool)
     requires across { edges.now.left ≤ edges.now.right }
     requires down { edges.now.top ≤ edges.now.bottom }
-    requires able { CanDraw drawing.now (size_of dst.old) (format_of dst.old) edges.now.left edges.now.top edges.now.right edges.now.bottom }
+    requires able { HasOperands drawing.now (size_of dst.old) (format_of dst.old) edges.now.left edges.now.top edges.now.right edges.now.bottom }
     requires order { KeepsSource drawing.now.source forward }
     ensures { IsDrawn drawing.now edges.now.left edges.now.top edges.now.right edges.now.bottom dst.old dst.new }
 {
@@ -41,7 +41,7 @@ fn draw_row(
     forward: bool,
 )
     requires across { left ≤ right }
-    requires able { CanDraw drawing.now (size_of dst.old) (format_of dst.old) left y right (y + 1) }
+    requires able { HasOperands drawing.now (size_of dst.old) (format_of dst.old) left y right (y + 1) }
     requires order { KeepsSource drawing.now.source forward }
     requires way { IsWayOf drawing.now (format_of dst.old) left way.now }
     ensures { IsDrawn drawing.now left y right (y + 1) dst.old dst.new }
@@ -63,7 +63,7 @@ fn draw_runs(
     forward: bool,
 )
     requires across { left ≤ right }
-    requires able { CanDraw drawing.now (size_of dst.old) (format_of dst.old) left y right (y + 1) }
+    requires able { HasOperands drawing.now (size_of dst.old) (format_of dst.old) left y right (y + 1) }
     requires order { KeepsSource drawing.now.source forward }
     ensures { IsDrawn drawing.now left y right (y + 1) dst.old dst.new }
 {

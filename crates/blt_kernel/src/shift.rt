@@ -6,7 +6,7 @@ ghost use Rattle.blt_kernel.specs.InnerShift.{place_shifted};
 ghost use Rattle.blt_kernel.specs.InnerBoxes.{box_from, ArePart, HasPoint, BoxReaches};
 ghost use Rattle.blt_kernel.specs.InnerOrder.{IsAhead};
 ghost use Rattle.blt_kernel.specs.InnerReadable.{is_readable};
-ghost use Rattle.geom_base.specs.Points.{is_in, point_at};
+ghost use Rattle.geom_base.specs.Points.{is_in, point_at, most_side};
 
 use crate::edges::Edges;
 use geom_base::{Point, Rect, Size};
@@ -22,9 +22,9 @@ impl Shift {
     /// The column that belongs to one of the target.
     pub fn column(&self, x: u32) -> u32
         requires from { pos 0 ≤ℤ place_shifted self.now.rect.left self.now.at.x (pos x) }
-        requires to { place_shifted self.now.rect.left self.now.at.x (pos x) ≤ℤ pos 4096 }
+        requires to { place_shifted self.now.rect.left self.now.at.x (pos x) ≤ℤ pos most_side }
         ensures value { pos result ≡ place_shifted self.now.rect.left self.now.at.x (pos x) }
-        ensures small { result ≤ 4096 }
+        ensures small { result ≤ most_side }
     {
         placed(self.rect.left, self.at.x, x)
     }
@@ -32,21 +32,21 @@ impl Shift {
     /// The row that belongs to one of the target.
     pub fn row(&self, y: u32) -> u32
         requires from { pos 0 ≤ℤ place_shifted self.now.rect.top self.now.at.y (pos y) }
-        requires to { place_shifted self.now.rect.top self.now.at.y (pos y) ≤ℤ pos 4096 }
+        requires to { place_shifted self.now.rect.top self.now.at.y (pos y) ≤ℤ pos most_side }
         ensures value { pos result ≡ place_shifted self.now.rect.top self.now.at.y (pos y) }
-        ensures small { result ≤ 4096 }
+        ensures small { result ≤ most_side }
     {
         placed(self.rect.top, self.at.y, y)
     }
 
     /// The part of a box to which points of a surface of a size belong.
     pub fn cut(&self, size: Size, edges: &Edges) -> Edges
-        requires width { size.w ≤ 4096 }
-        requires height { size.h ≤ 4096 }
+        requires width { size.w ≤ most_side }
+        requires height { size.h ≤ most_side }
         requires across { edges.now.left ≤ edges.now.right }
-        requires right { edges.now.right ≤ 4096 }
+        requires right { edges.now.right ≤ most_side }
         requires down { edges.now.top ≤ edges.now.bottom }
-        requires bottom { edges.now.bottom ≤ 4096 }
+        requires bottom { edges.now.bottom ≤ most_side }
         ensures part { ArePart edges.now result }
         ensures points { (x y : ℕ) → is_in (point_at x y) (box_from result) ≡
             (is_in (point_at x y) (box_from edges.now) && is_readable self.now size (point_at x y)) }
@@ -92,8 +92,8 @@ struct Span {
 /// The part of a span whose coordinates belong to some of a surface that has `len` of them.
 fn cut_span(span: Span, corner: i32, at: i32, len: u32) -> Span
     requires order { span.from ≤ span.to }
-    requires within { span.to ≤ 4096 }
-    requires len { len ≤ 4096 }
+    requires within { span.to ≤ most_side }
+    requires len { len ≤ most_side }
     ensures order { result.from ≤ result.to }
     ensures part { (span.from ≤ result.from) × (result.to ≤ span.to) }
     ensures points { (x : ℕ) → ((result.from ≤ x) × (x < result.to)) ↔
@@ -116,7 +116,7 @@ fn cut_span(span: Span, corner: i32, at: i32, len: u32) -> Span
 
 /// The first coordinate from one on, to which none below 0 belongs.
 fn first_there(from: u32, corner: i32, at: i32) -> i64
-    requires { from ≤ 4096 }
+    requires { from ≤ most_side }
     ensures { result ≡ int_max (pos from) (corner -ℤ at) }
 {
     i64::from(from).max(i64::from(corner) - i64::from(at))
@@ -124,8 +124,8 @@ fn first_there(from: u32, corner: i32, at: i32) -> i64
 
 /// The end of the coordinates before another, to which none from `len` on belongs.
 fn last_there(to: u32, corner: i32, at: i32, len: u32) -> i64
-    requires to { to ≤ 4096 }
-    requires len { len ≤ 4096 }
+    requires to { to ≤ most_side }
+    requires len { len ≤ most_side }
     ensures { result ≡ int_min (pos to) ((pos len -ℤ at) +ℤ corner) }
 {
     i64::from(to).min(i64::from(len) - i64::from(at) + i64::from(corner))
@@ -134,9 +134,9 @@ fn last_there(to: u32, corner: i32, at: i32, len: u32) -> i64
 /// The coordinate that belongs to one of the target.
 fn placed(corner: i32, at: i32, x: u32) -> u32
     requires from { pos 0 ≤ℤ place_shifted corner at (pos x) }
-    requires to { place_shifted corner at (pos x) ≤ℤ pos 4096 }
+    requires to { place_shifted corner at (pos x) ≤ℤ pos most_side }
     ensures value { pos result ≡ place_shifted corner at (pos x) }
-    ensures small { result ≤ 4096 }
+    ensures small { result ≤ most_side }
 {
     (i64::from(x) - i64::from(corner) + i64::from(at)) as u32
 }

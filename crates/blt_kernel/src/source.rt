@@ -81,7 +81,7 @@ impl SourcePixels<'_> {
         requires bytes { HasTargetBytes (format_of dst.old) x self.now }
         ensures values { values_of dst.new ≡
             redrawn (size_of dst.old) (values_of dst.old) (λ p. is_in p (box_of x y (x + len) (y + 1))) (given self.now (size_of dst.old) (values_of dst.old)) }
-        ensures fit { (k : ℕ) → k < len → own_value self.now (size_of dst.old) (values_of dst.old) (point_at (x + k) y) < 2 ^ bits_of (format_of dst.old) }
+        ensures fits { (k : ℕ) → k < len → own_value self.now (size_of dst.old) (values_of dst.old) (point_at (x + k) y) < 2 ^ bits_of (format_of dst.old) }
         ensures only { OnlyPixels dst.old dst.new }
     {
         let at = Point::at(x, y);
@@ -96,7 +96,7 @@ impl SourcePixels<'_> {
     pub fn read_run(&self, dst: &LentSurf<'_>, x: u32, y: u32, out: &mut [u32])
         requires { SourceFits (size_of dst.now) (format_of dst.now) x y (x + length out.old) (y + 1) self.now }
         ensures values { EachIndex out.new (λ k. slice_index out.new k ≡ source_at self.now (size_of dst.now) (values_of dst.now) (point_at (x + k) y)) }
-        ensures fit { All (λ v. v < 2 ^ bits_of (format_of dst.now)) out.new }
+        ensures fits { All (λ v. v < 2 ^ bits_of (format_of dst.now)) out.new }
     {
         self.read_own(dst, x, y, out);
         self.xlate.xlate_row(out);
@@ -108,7 +108,7 @@ impl SourcePixels<'_> {
         ensures values { EachIndex out.new
             (λ k. slice_index out.new k ≡ value_shifted self.now.shift (size_from self.now.lent (size_of dst.now))
             (values_from self.now.lent (values_of dst.now)) (point_at (x + k) y)) }
-        ensures fit { All (λ v. v < 2 ^ bits_of (format_from self.now.lent (format_of dst.now))) out.new }
+        ensures fits { All (λ v. v < 2 ^ bits_of (format_from self.now.lent (format_of dst.now))) out.new }
     {
         let from = Point::at(self.shift.column(x), self.shift.row(y));
         match self.lent {

@@ -1,5 +1,6 @@
 -- The slots of a brush.
-use Rattle.std.proofs.Common.{◌≡◌, ◌≢◌, ℕ, zero, suc, ◌<◌, List, [], ◌∷◌, ◌++◌, length, get_or, set, Some, None, Bool, true, false, cond, ◌||◌, refl, sym, ◌∙◌, ap, arith, ◌==◌, nat_lt, true≢false}
+use Rattle.std.proofs.Common.{◌≡◌, ◌≢◌, ℕ, zero, suc, ◌<◌, List, [], ◌∷◌, ◌++◌, length, get_or, set, Some, None, Bool, true}
+use Rattle.std.proofs.Common.{false, cond, ◌||◌, refl, sym, ◌∙◌, ap, arith, ◌==◌, nat_lt, true≢false}
 use Rattle.std.specs.List.{position, position_or_len}
 use Rattle.std.proofs.lemmas.List.Quantifiers.{position-Some}
 use Rattle.std.proofs.lemmas.List.Sums.{fails_before_first}

@@ -27,13 +27,6 @@ copied_value p s d bits fits =
     sym (same_number_with_bits bits (λ i. rop_bit 204 (bit_at p i) (bit_at s i) (bit_at d i)) s (λ i. bit_at-lt _ _) fits
     (λ i h. copy_bit (bit_at p i) (bit_at s i) (bit_at d i) (bit_at-lt _ _) (bit_at-lt _ _) (bit_at-lt _ _)))
 
--- whatever the pattern and the old value are
-copied_whatever : (p s d bits : ℕ) → rop3_of 204 p s d bits ≡ rop3_of 204 0 s 0 bits
-copied_whatever p s d bits =
-    ap (number_with_bits bits) (λ j i.
-    (sym (copy_bit (bit_at p i) (bit_at s i) (bit_at d i) (bit_at-lt _ _) (bit_at-lt _ _) (bit_at-lt _ _))
-    ∙ copy_bit (bit_at 0 i) (bit_at s i) (bit_at 0 i) (bit_at-lt _ _) (bit_at-lt _ _) (bit_at-lt _ _)) j)
-
 source_alone_needs : source_needed source_alone ≡ true
 unfolding source_needed
 source_alone_needs = refl
@@ -54,11 +47,6 @@ copy_alone c o p d = rw (source_alone_spares, spares_pattern) refl
 pub copy-source : (c : CopyCall) (o : Operands) (p : Point) (d v : ℕ) → o.source (point_across c.rect c.src p) ≡ Some v → v < 2 ^ bits_of o.format →
     new_of_copy c o p d ≡ Some v
 copy-source c o p d v e fits = rw (source_alone_needs, source_alone_spares, e) (ap (λ (n : ℕ). Some n) (copied_value _ v d (bits_of o.format) fits))
-
--- a copy gives the low bits of the source's value
-pub copy-low : (c : CopyCall) (o : Operands) (p : Point) (d v : ℕ) → o.source (point_across c.rect c.src p) ≡ Some v →
-    new_of_copy c o p d ≡ Some (rop4_of source_alone false 0 v 0 (bits_of o.format))
-copy-low c o p d v e = rw (source_alone_needs, source_alone_spares, e) (ap (λ (n : ℕ). Some n) (copied_whatever _ v d (bits_of o.format)))
 
 -- and nothing where there is none
 pub copy-none : (c : CopyCall) (o : Operands) (p : Point) (d : ℕ) → o.source (point_across c.rect c.src p) ≡ None → new_of_copy c o p d ≡ None

@@ -12,12 +12,16 @@ pub record Image : Type 0 where
   pub values : List ℕ
   pub back : Rgb
 
--- each side has 1 to 64 pixels
+-- the most pixels of a side of a pattern
+abbrev pub most_pattern_side : ℕ
+most_pattern_side = 64
+
+-- the sides that a pattern may have
 abbrev pub HasPatternSides : Size → Type 0
-HasPatternSides size = (1 ≤ size.w) × (size.w ≤ 64) × (1 ≤ size.h) × (size.h ≤ 64)
+HasPatternSides size = (1 ≤ size.w) × (size.w ≤ most_pattern_side) × (1 ≤ size.h) × (size.h ≤ most_pattern_side)
 
 -- the table fits the format, and there is a value for each pixel, each with at most the format's bits
 pub record IsImage (i : Image) : Type 0 where
   pub table : length i.table ≡ colours_of i.format
   pub len : length i.values ≡ i.size.w * i.size.h
-  pub fit : All (λ v. v < 2 ^ bits_of i.format) i.values
+  pub fits : All (λ v. v < 2 ^ bits_of i.format) i.values

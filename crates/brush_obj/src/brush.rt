@@ -10,11 +10,14 @@ use crate::hatch::Hatch;
 use crate::pattern::Pattern;
 use crate::rbrush::RBrush;
 use crate::refusal::BrushRefusal;
-use crate::slot::{Slot, fill, make_place, place_of};
+use crate::slot::{Slot, fill, find_place, make_place};
 use geom_base::{Point, Size};
 use pix_format::{ColourTable, Format, Rgb};
 use std::alloc::{AllocError, Global};
 use std::marker::Model;
+
+/// The most pixels of a side of a pattern.
+pub const MOST_PATTERN_SIDE: u32 = 64;
 
 /// A brush, with slots in which drivers keep its realised forms.
 #[derive(Drop)]
@@ -55,7 +58,7 @@ impl BrushObj {
     ///
     /// # Errors
     ///
-    /// `TooLarge` exactly where a side is over 64, else `NoMemory` for want of memory.
+    /// `TooLarge` exactly where a side has over `MOST_PATTERN_SIDE` pixels, else `NoMemory` for want of memory.
     pub fn pattern(
         alloc: Global,
         size: Size,
@@ -72,7 +75,7 @@ impl BrushObj {
         ensures sides { OnOk result (HasPatternSides size) }
         ensures err { IfErr result (Refuses size) }
     {
-        if size.w > 64 || size.h > 64 {
+        if size.w > MOST_PATTERN_SIDE || size.h > MOST_PATTERN_SIDE {
             return Err(BrushRefusal::TooLarge(size));
         }
         let table = ColourTable::of(alloc, table.colours())?;
@@ -150,7 +153,7 @@ impl BrushObj {
     pub fn rbrush(&self, owner: u32) -> Option<&RBrush>
         ensures { option_copied result ≡ kept self.now owner }
     {
-        let at = place_of(self.slots.as_slice(), owner)?;
+        let at = find_place(self.slots.as_slice(), owner)?;
         self.slots[at].realised.as_ref()
     }
 }

@@ -68,7 +68,7 @@ impl BrushFace {
         requires ready { IsReadyFor (size_of self.now) into.old }
         ensures realised { IsRealised self.now format table.now into.new }
         ensures all { HasAllValues into.new }
-        ensures fit { All (λ v. v < 2 ^ bits_of format) into.new.values }
+        ensures fits { All (λ v. v < 2 ^ bits_of format) into.new.values }
     {
         let size = self.size();
         let mut room = [0; MOST_VALUES];
@@ -83,7 +83,7 @@ impl BrushFace {
         requires len { length out.old ≡ (size_of self.now).w * (size_of self.now).h }
         ensures values { let w = (size_of self.now).w in
             EachIndex out.new (λ k. slice_index out.new k ≡ tile_value self.now format table.now (k % w) (k / w)) }
-        ensures fit { All (λ v. v < 2 ^ bits_of format) out.new }
+        ensures fits { All (λ v. v < 2 ^ bits_of format) out.new }
     {
         match self {
             BrushFace::Solid(colour) => out.fill(value_of(format, table, *colour)),

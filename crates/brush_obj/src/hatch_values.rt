@@ -43,7 +43,7 @@ impl HatchValues {
     /// The values along a row, from a point on.
     pub fn fill_row(&self, origin: Point, at: Point, out: &mut [u32])
         ensures values { EachIndex out.new (λ k. slice_index out.new k ≡ value_of_hatch self.now origin (record { x = at.x +ℤ pos k; y = at.y })) }
-        ensures fit { (format : Format) → HatchFits format self.now → All (λ v. v < 2 ^ bits_of format) out.new }
+        ensures fits { (format : Format) → HatchFits format self.now → All (λ v. v < 2 ^ bits_of format) out.new }
     {
         let x = wrapped(at.x, origin.x, 8);
         let y = wrapped(at.y, origin.y, 8);
@@ -58,7 +58,7 @@ impl HatchValues {
         requires row { y < 8 }
         requires short { length out.old ≤ 8 }
         ensures values { EachIndex out.new (λ k. slice_index out.new k ≡ hatch_value self.now ((x + k) % 8) y) }
-        ensures fit { (format : Format) → HatchFits format self.now → All (λ v. v < 2 ^ bits_of format) out.new }
+        ensures fits { (format : Format) → HatchFits format self.now → All (λ v. v < 2 ^ bits_of format) out.new }
     {
         for k in 0..out.len() {
             let column = turned(x as usize + k, 8) as u32;
@@ -70,7 +70,7 @@ impl HatchValues {
     pub(crate) fn write_tile(&self, out: &mut [u32])
         requires { length out.old ≡ 64 }
         ensures values { EachIndex out.new (λ k. slice_index out.new k ≡ hatch_value self.now (k % 8) (k / 8)) }
-        ensures fit { (format : Format) → HatchFits format self.now → All (λ v. v < 2 ^ bits_of format) out.new }
+        ensures fits { (format : Format) → HatchFits format self.now → All (λ v. v < 2 ^ bits_of format) out.new }
     {
         for k in 0..out.len() {
             out[k] = self.tile_value(k as u32 % 8, k as u32 / 8);

@@ -79,7 +79,7 @@ impl Ink<'_> {
     /// The values along a row of a target, from a point on.
     pub fn fill_row(&self, origin: Point, at: Point, out: &mut [u32])
         ensures values { EachIndex out.new (λ k. slice_index out.new k ≡ ink_at self.now (from_origin origin (record { x = at.x +ℤ pos k; y = at.y }))) }
-        ensures fit { (format : Format) → InkFits self.now format → All (λ v. v < 2 ^ bits_of format) out.new }
+        ensures fits { (format : Format) → InkFits self.now format → All (λ v. v < 2 ^ bits_of format) out.new }
     {
         match self {
             Ink::Solid(value) => out.fill(*value),

@@ -32,7 +32,7 @@ mod tile;
 mod wrapping;
 
 pub use blt_call::BltCall;
-pub use brush::BrushObj;
+pub use brush::{BrushObj, MOST_PATTERN_SIDE};
 pub use copy_call::CopyCall;
 pub use draw_call::{DrawCall, calls_move};
 pub use face::BrushFace;

@@ -69,7 +69,7 @@ impl Pattern {
         ensures some { is_some result ≡ same_kind self.now.format self.now.table format table.now }
         ensures size { IfSome result (λ t. t.size ≡ self.now.size) }
         ensures values { IfSome result (λ t. t.values.now ≡ self.now.values) }
-        ensures fit { IfSome result (λ t. All (λ v. v < 2 ^ bits_of format) t.values.now) }
+        ensures fits { IfSome result (λ t. All (λ v. v < 2 ^ bits_of format) t.values.now) }
     {
         if !is_same_kind(self.format, &self.table, format, table) {
             return None;
@@ -83,7 +83,7 @@ impl Pattern {
         requires len { length out.old ≡ self.now.size.w * self.now.size.h }
         ensures values { let i = self.now in
             EachIndex out.new (λ k. slice_index out.new k ≡ convert i.format i.table format table.now i.back (slice_index i.values k)) }
-        ensures fit { All (λ v. v < 2 ^ bits_of format) out.new }
+        ensures fits { All (λ v. v < 2 ^ bits_of format) out.new }
     {
         out.copy_from_slice(&self.values);
         convert_row(self.format, &self.table, format, table, self.back, out);

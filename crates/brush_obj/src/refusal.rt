@@ -3,7 +3,7 @@
 use geom_base::Size;
 use std::alloc::AllocError;
 
-/// Why a pattern cannot be a brush: a side of this size has over 64 pixels; or memory is wanting.
+/// Why a pattern cannot be a brush: a side of this size has over `MOST_PATTERN_SIDE` pixels; or memory is wanting.
 #[derive(Clone, Copy, Debug, PartialEq, Eq)]
 pub enum BrushRefusal {
     TooLarge(Size),

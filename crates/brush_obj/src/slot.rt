@@ -21,7 +21,7 @@ fn has_place(slots: &[Slot], owner: u32) -> bool
 }
 
 /// Where an owner has its slot, or `None` where it has none.
-pub fn place_of(slots: &[Slot], owner: u32) -> Option<usize>
+pub fn find_place(slots: &[Slot], owner: u32) -> Option<usize>
     ensures { result ≡ position (λ s. s.owner == owner) slots.now }
 {
     slots.iter().position(|slot| slot.owner == owner)
@@ -42,7 +42,7 @@ pub fn fill(slots: &mut [Slot], owner: u32, realised: Option<RBrush>)
     ensures place { IsTrue (is_among slots.new owner) }
     ensures others { OnlyOf owner slots.old slots.new }
 {
-    if let Some(at) = place_of(slots, owner) {
+    if let Some(at) = find_place(slots, owner) {
         set(slots, at, Slot { owner, realised });
     }
 }

@@ -40,7 +40,7 @@ impl Tile<'_> {
     pub(crate) fn fill_row(&self, origin: Point, at: Point, out: &mut [u32])
         ensures values { EachIndex out.new (λ k. slice_index out.new k ≡
             tiled_values self.now.size self.now.values.now (from_origin origin (record { x = at.x +ℤ pos k; y = at.y }))) }
-        ensures fit { (format : Format) → All (λ v. v < 2 ^ bits_of format) self.now.values.now → All (λ v. v < 2 ^ bits_of format) out.new }
+        ensures fits { (format : Format) → All (λ v. v < 2 ^ bits_of format) self.now.values.now → All (λ v. v < 2 ^ bits_of format) out.new }
     {
         let width = self.size.w as usize;
         let x = wrapped(at.x, origin.x, self.size.w) as usize;

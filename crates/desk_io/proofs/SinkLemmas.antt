@@ -1,4 +1,5 @@
-use Rattle.std.proofs.Common.{◌≡◌, ℕ, ◌+◌, ◌≤◌, true, false, List, [], ◌++◌, length, take, drop, Option, Some, Ok, Err, ap, sym, ◌∙◌, refl, append-nil, take-append-drop, take-add, true≢false, arith, ◌-◌, length-drop}
+use Rattle.std.proofs.Common.{◌≡◌, ℕ, ◌+◌, ◌≤◌, true, false, List, [], ◌++◌, length, take, drop, Option, Some, Ok, Err, ap, sym, ◌∙◌}
+use Rattle.std.proofs.Common.{refl, append-nil, take-append-drop, take-add, true≢false, arith, ◌-◌, length-drop}
 use Rattle.std.proofs.lemmas.List.{take_all}
 use Rattle.desk_io.specs.declared.sink.WriteFault.{WriteFault}
 use Rattle.desk_io.specs.SinkLaws.{puts_on, puts_as}

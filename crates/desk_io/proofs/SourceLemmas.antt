@@ -1,5 +1,6 @@
 -- Reading by pieces.
-use Rattle.std.proofs.Common.{◌≡◌, ℕ, ◌+◌, ◌≤◌, ◌<◌, List, [], ◌++◌, length, take, drop, Option, Some, Ok, Err, Vec, ap, sym, ◌∙◌, refl, append_assoc, append-nil, take-append-drop, length-append, le_refl, arith}
+use Rattle.std.proofs.Common.{◌≡◌, ℕ, ◌+◌, ◌≤◌, ◌<◌, List, [], ◌++◌, length, take, drop, Option, Some, Ok, Err, Vec, ap, sym, ◌∙◌}
+use Rattle.std.proofs.Common.{refl, append_assoc, append-nil, take-append-drop, length-append, le_refl, arith}
 use Rattle.std.proofs.lemmas.List.{length-take-le}
 use Rattle.std.proofs.Math.Seq.{drop-append_seam, drop-append-add, drop-nil}
 use Rattle.std.specs.declared.alloc.Global.{Global}

@@ -9,7 +9,7 @@ use Rattle.desk_run.specs.declared.status.InputRefusal.TheVariants.{Size}
 use Rattle.desk_run.proofs.InputLaws.{too_long}
 use Rattle.desk_run.specs.declared.status.Status.{Status}
 use Rattle.desk_run.specs.declared.status.Status.TheVariants.{Done, Usage, InputRefused, NoMemory, ReadFault, WriteFault, MemorySeen}
-use Rattle.desk_run.specs.Desk.{first_state}
+use Rattle.desk_span.specs.Desk.{first_state}
 use Rattle.desk_run.specs.Input.{Checked, checked}
 use Rattle.desk_run.specs.Run.{Entry, Ran, WroteAs}
 use Rattle.desk_run.specs.Answers.{Call, WordsForm, run, input_of, Answered, HasCause, Reads}
@@ -17,11 +17,11 @@ use Rattle.desk_run.specs.InnerAnswers.{Ends, Says, status_of}
 
 -- a run of the commands is the end of its input
 module _ (i : Checked) {a b : Option (List ℕ)} {x y : ℕ} (h : List Entry) where
-  broken : WroteAs i.script.names i.script.commands (first_state i.config) h a b x y ended.WriteFault → Rose x y
+  broken : WroteAs i.script.names i.script.commands (first_state i.config.size) h a b x y ended.WriteFault → Rose x y
   broken (inl p) = p.cause refl
   broken (inr (all, p)) = p.cause refl
 
-  pub ran_ends : (e : Ended) → Ran i.script.names i.script.commands (first_state i.config) a b x y e h → Ends (Some (Ok i)) a b x y (status_of e)
+  pub ran_ends : (e : Ended) → Ran i.script.names i.script.commands (first_state i.config.size) a b x y e h → Ends (Some (Ok i)) a b x y (status_of e)
   ran_ends ended.Done r =
       record { comes = refl; read = λ e. cc; cause = λ e. absurd (cc); complete = λ no. inl refl; leaves = record { history = h; ran = r } }
   ran_ends ended.MemorySeen r =

@@ -9,9 +9,9 @@ use Rattle.script_orders.specs.declared.desk_command.DeskCommand.{DeskCommand}
 use Rattle.script_orders.specs.declared.desk_command.Spot.{Spot}
 use Rattle.script_orders.specs.declared.desk_command.Spot.TheVariants as spots
 use Rattle.script_orders.specs.declared.script_command.ScriptCommand.TheVariants.{Draw}
-use Rattle.desk_run.specs.Desk.{State, bitmap_at, drawn, drawn_on, name_of, new_of}
-use Rattle.desk_run.specs.Meeting.{Meets}
-use Rattle.desk_run.specs.Reports.{Told, memory, report_on, same_name}
+use Rattle.desk_span.specs.Desk.{State, bitmap_at, drawn, drawn_on, name_of, new_of}
+use Rattle.desk_span.specs.Meeting.{Meets}
+use Rattle.desk_span.specs.Reports.{Told, memory, report_on, same_name}
 use Rattle.script_orders.specs.declared.named.Named.TheVariants.{Screen, Bitmap}
 use Rattle.desk_run.specs.InnerRun.{Carried}
 use Rattle.desk_run.specs.Texts.{BitmapNames, report_text}

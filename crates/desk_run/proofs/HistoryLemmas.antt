@@ -1,5 +1,6 @@
 -- Commands one after the other, and what was written of them so far.
-use Rattle.std.proofs.Common.{◌≡◌, ℕ, suc, ◌+◌, ◌<◌, ◌≤◌, Bool, true, false, List, [], ◌∷◌, ◌++◌, length, take, drop, get_or, refl, sym, ap, subst, ◌∙◌, arith, append_assoc, append-nil, length-append, inl, inr, Option, add-zero, drop-cons}
+use Rattle.std.proofs.Common.{◌≡◌, ℕ, suc, ◌+◌, ◌<◌, ◌≤◌, Bool, true, false, List, [], ◌∷◌, ◌++◌, length, take, drop, get_or, refl, sym, ap, subst}
+use Rattle.std.proofs.Common.{◌∙◌, arith, append_assoc, append-nil, length-append, inl, inr, Option, add-zero, drop-cons}
 use Rattle.std.specs.Prelude.{◌==◌, ◌&&◌}
 use Rattle.std.proofs.Math.Bool.{and-true}
 use Rattle.std.proofs.lemmas.List.{take_more, map-append, take_all, length-map}
@@ -9,8 +10,8 @@ use Rattle.desk_io.specs.Sinks.{Puts}
 use Rattle.script_orders.specs.declared.script_command.ScriptCommand.{ScriptCommand}
 use Rattle.desk_run.specs.declared.run.Ended.{Ended}
 use Rattle.desk_run.specs.declared.run.Ended.TheVariants as ended
-use Rattle.desk_run.specs.Desk.{State, carried}
-use Rattle.desk_run.specs.Reports.{Told}
+use Rattle.desk_span.specs.Desk.{State, carried}
+use Rattle.desk_span.specs.Reports.{Told}
 use Rattle.desk_run.specs.Texts.{BitmapNames, end_text}
 use Rattle.desk_run.specs.Run.{Entry, Makes, MayTell, MayTellAll, NextMakes, Ran, body, commands_of, is_whole, out, run, text_of}
 use Rattle.desk_run.specs.InnerRun.{Carried}

@@ -1,12 +1,8 @@
-pub mod BitsLemmas
 pub mod CallLemmas
 pub mod CarryLemmas
 pub mod ConfigLemmas
-pub mod DeskLemmas
-pub mod DrawLemmas
-pub mod FrameLemmas
 pub mod HexLemmas
 pub mod HistoryLemmas
 pub mod InputLaws
-pub mod RowCopyLemmas
+pub mod LiveLemmas
 pub mod RowLemmas

@@ -1,5 +1,6 @@
 -- Rows of values that are written or summed one after the other.
-use Rattle.std.proofs.Common.{◌≡◌, ℕ, zero, suc, ◌+◌, ◌-◌, ◌*◌, ◌<◌, ◌≤◌, List, [], ◌∷◌, ◌++◌, take, drop, get_or, length, arith, refl, sym, ap, ◌∙◌, Option, true, false, append_assoc, append-nil, length-take, length-drop, pos, ◌+ℤ◌, unsigned_abs}
+use Rattle.std.proofs.Common.{◌≡◌, ℕ, zero, suc, ◌+◌, ◌-◌, ◌*◌, ◌<◌, ◌≤◌, List, [], ◌∷◌, ◌++◌, take, drop, get_or, length, arith, refl, sym, ap, ◌∙◌}
+use Rattle.std.proofs.Common.{Option, true, false, append_assoc, append-nil, length-take, length-drop, pos, ◌+ℤ◌, unsigned_abs}
 use Rattle.std.proofs.lemmas.List.{drop-drop, same_lists, get_or_default, take_all, get_or-take, get_or-drop}
 use Rattle.std.proofs.lemmas.List.Sums.{fold-append}
 use Rattle.std.proofs.Math.Nat.{mul-le-mul_right, mul_comm}
@@ -40,29 +41,6 @@ module _ (digits w h y : ℕ) (vs : List ℕ) {line row : List ℕ} {a b c : Opt
       (puts_on _ _ a b c i j k true so (puts_as line _ b c j k true one (is ∙ ap (row_text digits) read))))
       (ap (λ (t : List ℕ). t ++ rows_text digits w (h - (y + 1)) (drop ((y + 1) * w) vs)) (sym (row_more digits w y vs))
       ∙ sym (rows_then digits w (y + 1) (h - (y + 1)) vs) ∙ ap (λ n. rows_text digits w n vs) all)
-
--- a row of a grid lies within it
-row_within : (w h y long : ℕ) → long ≡ w * h → y < h → y * w + w ≤ long
-row_within w h y long e hy =
-    let m : suc y * w ≤ h * w = mul-le-mul_right w (let k : suc y ≤ h = omega arith in k) in
-    let c : w * h ≡ h * w = mul_comm w h in
-    omega arith
-
-length_row : (w h y : ℕ) (values : List ℕ) → length values ≡ w * h → y < h → length (take w (drop (y * w) values)) ≡ w
-length_row w h y values long hy =
-    let fit : y * w + w ≤ length values = row_within w h y (length values) long hy in
-    simp (length-take, length-drop) (omega arith)
-
--- a list with the values of a row is that row
-pub row_read : (size : Size) (y : ℕ) (values row : List ℕ) → length values ≡ size.w * size.h → y < size.h → length row ≡ size.w →
-    ((k : ℕ) → k < length row → get_or row k 0 ≡ value_of_point size values (record { x = pos 0 +ℤ pos k; y = pos y })) →
-    row ≡ take size.w (drop (y * size.w) values)
-row_read size y values row long hy wide each =
-    same_lists row (take size.w (drop (y * size.w) values)) (wide ∙ sym (length_row size.w size.h y values long hy)) (λ k d below.
-    let column : unsigned_abs (pos 0 +ℤ pos k) ≡ k = grind (arith, ints) in
-    get_or_default row k d 0 below ∙ each k below ∙ ap (λ n. get_or values (y * size.w + n) 0) column
-    ∙ sym (get_or_default (take size.w (drop (y * size.w) values)) k d 0 (omega (arith, length_row size.w size.h y values long hy))
-    ∙ get_or-take size.w (drop (y * size.w) values) k 0 (omega arith) ∙ get_or-drop (y * size.w) values k 0))
 
 -- a sum with one row more
 pub sum_more : (w y : ℕ) (values : List ℕ) → sum_on (sum_of (take (y * w) values)) (take w (drop (y * w) values)) ≡ sum_of (take ((y + 1) * w) values)

@@ -10,7 +10,7 @@ use Rattle.desk_run.specs.declared.status.InputRefusal.TheVariants.{Size}
 use Rattle.desk_run.specs.declared.status.Status.{Status}
 use Rattle.desk_run.specs.declared.status.Status.TheVariants.{Done, Usage, InputRefused, NoMemory, ReadFault, WriteFault, MemorySeen}
 use Rattle.desk_run.specs.Input.{Checked, checked}
-use Rattle.desk_run.specs.Desk.{first_state}
+use Rattle.desk_span.specs.Desk.{first_state}
 use Rattle.desk_run.specs.Run.{Entry, Ran}
 use Rattle.desk_run.specs.Texts.{plain_text}
 
@@ -66,7 +66,7 @@ HasCause c _ = Unit {0}
 -- a run of the input's commands, from the desk of its configuration
 pub record Reached (i : Checked) (old new : Option (List ℕ)) (before after : ℕ) (e : Ended) : Type 0 where
   pub history : List Entry
-  pub ran : Ran i.script.names i.script.commands (first_state i.config) old new before after e history
+  pub ran : Ran i.script.names i.script.commands (first_state i.config.size) old new before after e history
 
 -- the sink failed in the text of the answer that is due
 pub record Cut (due : Option Status) (old new : Option (List ℕ)) (before after : ℕ) : Type 0 where

@@ -1,6 +1,8 @@
 -- The configuration: one linear screen of format 8, of any width and height in range.
-use Rattle.std.specs.Prelude.{◌≡◌, ℕ, ◌*◌, List, take, drop, length, codes, slice_index, Option, Some, None, Result, Ok, Err, Bool, ◌==◌, nat_le, ◌&&◌, if◌then◌else◌}
+use Rattle.std.specs.Prelude.{◌≡◌, ℕ, ◌*◌, List, take, drop, length, codes, slice_index, Option, Some, None}
+use Rattle.std.specs.Prelude.{Result, Ok, Err, Bool, ◌==◌, nat_le, ◌&&◌, if◌then◌else◌}
 use Rattle.std.specs.Str.{bytes_eq}
+use Rattle.geom_base.specs.Points.{most_side}
 use Rattle.desk_run.specs.declared.config.DeskConfig.{DeskConfig}
 use Rattle.desk_run.specs.declared.input.InputError.{InputError}
 use Rattle.desk_run.specs.declared.input.InputError.TheVariants.{Refused, NoMemory}
@@ -10,10 +12,10 @@ use Rattle.script_words.specs.Asking.{◌>>=◌, ask}
 use Rattle.script_words.specs.Lines.{word_at}
 use Rattle.script_words.specs.Spelling.{digits_in}
 
--- a number from 1 to 4096
+-- a side of a screen
 abbrev pub side_in_range : Option ℕ → Result ℕ InputRefusal
 side_in_range None = Err (Config 0)
-side_in_range (Some n) = if nat_le 1 n && nat_le n 4096 then Ok n else Err (Config 0)
+side_in_range (Some n) = if nat_le 1 n && nat_le n most_side then Ok n else Err (Config 0)
 
 -- a side of a screen in decimal digits, without a leading zero
 abbrev pub side_of : List ℕ → Result ℕ InputRefusal

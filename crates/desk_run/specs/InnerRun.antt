@@ -6,8 +6,8 @@ use Rattle.desk_io.specs.declared.sink.WriteFault.{WriteFault}
 use Rattle.script_orders.specs.declared.script_command.ScriptCommand.{ScriptCommand}
 use Rattle.desk_run.specs.declared.run.Outcome.{Outcome}
 use Rattle.desk_run.specs.declared.run.Outcome.TheVariants.{Whole, Wanting, Lacking, Broken}
-use Rattle.desk_run.specs.Desk.{State, carried}
-use Rattle.desk_run.specs.Reports.{Told}
+use Rattle.desk_span.specs.Desk.{State, carried}
+use Rattle.desk_span.specs.Reports.{Told}
 use Rattle.desk_run.specs.Run.{Makes, MayTell, text_of}
 use Rattle.desk_run.specs.Texts.{BitmapNames}
 

@@ -1,5 +1,6 @@
 -- The checked input: a configuration and commands, or the first refusal.
 use Rattle.std.specs.Prelude.{◌≡◌, ℕ, ◌+◌, ◌≤◌, List, take, drop, length, codes, Option, Some, None, Result, Ok, Err, nat_lt, if◌then◌else◌}
+use Rattle.geom_base.specs.Points.{most_side}
 use Rattle.desk_io.specs.Sources.{most_bytes}
 use Rattle.script_orders.specs.Asked.{Asked}
 use Rattle.desk_run.specs.declared.config.DeskConfig.{DeskConfig}
@@ -22,7 +23,7 @@ pub record Checked : Type 0 where
 -- the widths and heights that a screen may have
 pub record IsSide (n : ℕ) : Type 0 where
   pub least : 1 ≤ n
-  pub most : n ≤ 4096
+  pub most : n ≤ most_side
 
 -- the first refusal of a script, with its line and its number
 abbrev pub refused_script : Result Asked FirstRefusal → Result Asked InputRefusal

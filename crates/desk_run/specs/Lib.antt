@@ -1,15 +1,9 @@
 pub mod Status
 pub mod Input
-pub mod Reports
-pub mod Desk
-pub mod Meeting
 pub mod Texts
 pub mod Run
 pub mod Answers
 pub mod Config
 pub mod InnerAnswers
-pub mod InnerBeside
-pub mod InnerDrawing
-pub mod InnerFrames
 pub mod InnerRows
 pub mod InnerRun

@@ -8,9 +8,9 @@ use Rattle.script_orders.specs.declared.script_command.ScriptCommand.{ScriptComm
 use Rattle.script_orders.specs.declared.script_command.ScriptCommand.TheVariants.{Create, Delete, Brush, Draw, Dump, Sum, Nothing}
 use Rattle.desk_run.specs.declared.run.Ended.{Ended}
 use Rattle.desk_run.specs.declared.run.Ended.TheVariants.{Done, MemorySeen, NoMemory, WriteFault}
-use Rattle.desk_run.specs.Reports.{Told, memory}
-use Rattle.desk_run.specs.Desk.{State, surface_at, name_of, carried}
-use Rattle.desk_run.specs.Meeting.{Meets}
+use Rattle.desk_span.specs.Reports.{Told, memory}
+use Rattle.desk_span.specs.Desk.{State, surface_at, name_of, carried}
+use Rattle.desk_span.specs.Meeting.{Meets}
 use Rattle.desk_run.specs.Texts.{BitmapNames, report_text, dump_text, sum_text, end_text}
 
 -- a command that was carried out, with its reports

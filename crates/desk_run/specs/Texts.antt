@@ -1,5 +1,6 @@
 -- What is written: lines of bytes.
-use Rattle.std.specs.Prelude.{ℕ, zero, suc, ◌+◌, ◌*◌, ◌/◌, ◌%◌, ◌^◌, List, [], ◌∷◌, ◌++◌, length, take, drop, codes, decimal, nat_lt, slice_index_or, if◌then◌else◌}
+use Rattle.std.specs.Prelude.{ℕ, zero, suc, ◌+◌, ◌*◌, ◌/◌, ◌%◌, ◌^◌, List, [], ◌∷◌, ◌++◌, length, take, drop}
+use Rattle.std.specs.Prelude.{codes, decimal, nat_lt, slice_index_or, if◌then◌else◌}
 use Rattle.std.specs.List.{flat_map, fold}
 use Rattle.std.specs.Fmt.{signed_decimal}
 use Rattle.geom_base.specs.declared.rect.Rect.{Rect}
@@ -14,7 +15,7 @@ use Rattle.desk_run.specs.declared.status.InputRefusal.{InputRefusal}
 use Rattle.desk_run.specs.declared.status.InputRefusal.TheVariants.{Size, Config, Script}
 use Rattle.desk_run.specs.declared.status.Status.{Status}
 use Rattle.desk_run.specs.declared.status.Status.TheVariants.{Usage, InputRefused}
-use Rattle.desk_run.specs.Reports.{Cause, fault, memory, Told}
+use Rattle.desk_span.specs.Reports.{Cause, fault, memory, Told}
 
 abbrev pub hex_digit : ℕ → ℕ
 hex_digit n = if nat_lt n 10 then 48 + n else 87 + n

@@ -1,21 +1,22 @@
 //! The top call.
 
-ghost use Rattle.std.specs.Prelude.{◌≡◌, ◌≤◌, ◌*◌, ◌+◌, ◌⊎◌, ℕ, List, Some, None, Ok, map, length, string_bytes, is_some, All};
+ghost use Rattle.std.specs.Prelude.{◌≡◌, ◌≤◌, ◌*◌, ◌+◌, ◌⊎◌, ℕ, List, Some, None, Ok, map, length, string_bytes, is_some};
 ghost use Rattle.desk_io.specs.Counts.{Rose};
 ghost use Rattle.desk_io.specs.Sources.{most_bytes};
 ghost use Rattle.desk_run.specs.Answers.{Answered, form_of, input_of};
 ghost use Rattle.desk_run.specs.InnerAnswers.{Ends, Says, status_of};
-ghost use Rattle.script_orders.specs.Asked.{CanDo, IsSurfaceSize};
+ghost use Rattle.script_orders.specs.Asked.{IsSurfaceSize};
+ghost use Rattle.script_orders.specs.Live.{CanRun, first_live};
 ghost use Rattle.desk_run.specs.Input.{checked, checked_of};
 ghost use Rattle.desk_run.specs.declared.status.Status.TheVariants as status;
 
-use crate::desk::Desk;
 use crate::input::{Input, InputError, read_input};
 use crate::room::{row_line, row_values};
 use crate::run::{Ended, run_all};
 use crate::status::{InputRefusal, Status};
 use crate::text::plain_line;
 use desk_io::{ReadRefusal, Sink, Source, read_all, write_all};
+use desk_span::Desk;
 use std::alloc::Global;
 
 /// Whether the words are those of the form `run`.
@@ -42,7 +43,7 @@ fn say<K: Sink>(sink: &mut K, status: Status) -> Status
 /// Runs what an input asks for.
 fn run_input<K: Sink>(alloc: Global, input: &Input<'_>, sink: &mut K) -> Status
     requires size { IsSurfaceSize input.now.config.size }
-    requires can { All CanDo input.now.script.commands }
+    requires can { CanRun first_live input.now.script.commands }
     requires few { length input.now.script.commands ≤ 100000 }
     ensures { Ends (Some (Ok (checked_of input.now))) (K.written sink.old) (K.written sink.new) (K.faults sink.old) (K.faults sink.new) result }
 {

@@ -8,7 +8,7 @@ ghost use Rattle.script_words.specs.Lines.{lines_of};
 
 use crate::input::InputError;
 use crate::status::InputRefusal;
-use geom_base::Size;
+use geom_base::{MOST_SIDE, Size};
 use script_words::{decimal, first_lines, word};
 use std::alloc::Global;
 
@@ -30,7 +30,7 @@ fn side(digits: &[u8]) -> Result<u32, InputRefusal>
         return Err(OTHER_LINES);
     }
     match decimal(digits) {
-        Some(n) if 1 <= n && n <= 4096 => Ok(n),
+        Some(n) if 1 <= n && n <= MOST_SIDE => Ok(n),
         _ => Err(OTHER_LINES),
     }
 }

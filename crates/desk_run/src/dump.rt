@@ -5,9 +5,9 @@ ghost use Rattle.desk_io.specs.Sinks.{Puts};
 ghost use Rattle.pix_format.specs.Value.{digits_of};
 ghost use Rattle.desk_run.specs.Texts.{hex_digit, hex_digits, row_text, rows_text, dump_text};
 
-use crate::canvas::Canvas;
 use crate::text::head_line;
 use desk_io::{Sink, WriteFault, write_all};
+use desk_span::Canvas;
 use script_orders::{Named, Script};
 
 /// The hexadecimal digit of a number below 16.

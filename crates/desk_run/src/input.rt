@@ -1,10 +1,11 @@
 //! A whole input: a configuration and a script.
 
-ghost use Rattle.std.specs.Prelude.{◌≡◌, ◌≤◌, ◌<◌, ◌+◌, ◌^◌, length, IfOk, All};
+ghost use Rattle.std.specs.Prelude.{◌≡◌, ◌≤◌, ◌<◌, ◌+◌, ◌^◌, length, IfOk};
 ghost use Rattle.std.specs.Option.{option_copied};
 ghost use Rattle.desk_run.specs.Input.{checked, AnswersInput, AnswersScript, script_of};
 ghost use Rattle.script_words.specs.Lines.{lines_after};
-ghost use Rattle.script_orders.specs.Asked.{CanDo, IsSurfaceSize};
+ghost use Rattle.script_orders.specs.Asked.{IsSurfaceSize};
+ghost use Rattle.script_orders.specs.Live.{CanRun, first_live};
 ghost use Rattle.desk_run.specs.declared.config.DeskConfig.{DeskConfig};
 ghost use Rattle.desk_run.specs.declared.input.InputError.TheVariants.{Refused, NoMemory};
 ghost use Rattle.desk_io.specs.Sources.{most_bytes};
@@ -51,7 +52,7 @@ impl From<AllocError> for InputError {
 fn read_lines<'a>(alloc: Global, found: FoundLine<'a>) -> Result<Script<'a>, InputError>
     requires { found.before + 2 + length (lines_after (option_copied found.after)) < 2 ^ 64 }
     ensures value { AnswersScript result (script_of (found.entry.before + 2) (lines_after (option_copied found.entry.after))) }
-    ensures can { IfOk result (λ s. All CanDo s.commands) }
+    ensures can { IfOk result (λ s. CanRun first_live s.commands) }
     ensures few { IfOk result (λ s. length s.commands ≤ 100000) }
 {
     let text = match found.after {
@@ -73,7 +74,7 @@ pub fn read_input<'a>(alloc: Global, bytes: &'a [u8]) -> Result<Input<'a>, Input
     requires { length bytes.now ≤ most_bytes }
     ensures checked { AnswersInput result (checked bytes.now) }
     ensures size { IfOk result (λ i. IsSurfaceSize i.config.size) }
-    ensures can { IfOk result (λ i. All CanDo i.script.commands) }
+    ensures can { IfOk result (λ i. CanRun first_live i.script.commands) }
     ensures few { IfOk result (λ i. length i.script.commands ≤ 100000) }
 {
     let found = match find_line(bytes, b"%%") {

@@ -3,10 +3,11 @@
 ghost use Rattle.std.specs.Prelude.{◌≡◌, IfOk, length};
 ghost use Rattle.desk_run.specs.InnerRows.{longest_line, widest_row};
 
+use geom_base::MOST_SIDE;
 use std::alloc::{AllocError, Global};
 
 /// The most pixels of a row.
-const WIDEST: usize = 4096;
+const WIDEST: usize = MOST_SIDE as usize;
 
 /// The most bytes of a row's line: eight digits for each pixel, and the end of the line.
 const LONGEST: usize = 8 * WIDEST + 1;

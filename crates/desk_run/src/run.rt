@@ -1,21 +1,21 @@
 //! Commands in order, with what is written of them.
 
-ghost use Rattle.std.specs.Prelude.{◌≡◌, ◌≤◌, ◌+◌, ◌*◌, ℕ, List, [], length, All, is_err};
+ghost use Rattle.std.specs.Prelude.{◌≡◌, ◌≤◌, ◌+◌, ◌*◌, ℕ, List, [], length, is_err};
 ghost use Rattle.std.specs.Option.{option_map_or};
 ghost use Rattle.desk_io.specs.Sinks.{Puts};
-ghost use Rattle.script_orders.specs.Asked.{CanDo, CanDraw};
+ghost use Rattle.script_orders.specs.Live.{CanDo, CanDraw, CanRun, NamedIsThere};
 ghost use Rattle.script_orders.specs.declared.script_command.ScriptCommand.TheVariants as asked;
-ghost use Rattle.desk_run.specs.Desk.{State, name_of, surface_at, carried};
+ghost use Rattle.desk_span.specs.Desk.{State, name_of, surface_at, live_of, carried};
 ghost use Rattle.desk_run.specs.InnerRows.{longest_line, widest_row};
 ghost use Rattle.desk_run.specs.Texts.{dump_text, sum_text};
 ghost use Rattle.desk_run.specs.Run.{Entry, Ran, run};
 ghost use Rattle.desk_run.specs.InnerRun.{CameOut, MadeAs, WrittenAs};
 
-use crate::desk::Desk;
 use crate::dump::put_dump;
 use crate::sum::put_sum;
 use crate::text::{end_line, wanting_line};
 use desk_io::{Sink, WriteFault, write_all};
+use desk_span::Desk;
 use script_orders::{DeskCommand, Named, Script, ScriptCommand, Spot};
 use std::alloc::{AllocError, Global};
 
@@ -63,7 +63,7 @@ fn outcome_of_writing(written: Result<(), WriteFault>) -> Outcome
     }
 }
 
-/// Writes the lines of a dump of a surface that is there.
+/// Writes the lines of a dump of a surface.
 fn dump<K: Sink>(
     sink: &mut K,
     script: &Script<'_>,
@@ -72,15 +72,13 @@ fn dump<K: Sink>(
     values: &mut [u32],
     line: &mut [u8],
 ) -> Result<(), WriteFault>
+    requires there { NamedIsThere (live_of desk.now) name }
     requires values { length values.old ≡ widest_row }
     requires line { length line.old ≡ longest_line }
     ensures { let text = option_map_or (dump_text script.now.names name) (surface_at desk.now name) [] in
         Puts text (K.written sink.old) (K.written sink.new) (K.faults sink.old) (K.faults sink.new) (is_err result) }
 {
-    let canvas = match desk.surface(name) {
-        Some(canvas) => canvas,
-        None => return Ok(()),
-    };
+    let canvas = desk.surface(name);
     let width = canvas.size().w as usize;
     let length = canvas.format().digits() as usize * width + 1;
     put_dump(
@@ -93,7 +91,7 @@ fn dump<K: Sink>(
     )
 }
 
-/// Writes the line of a sum of a surface that is there.
+/// Writes the line of a sum of a surface.
 fn sum<K: Sink>(
     sink: &mut K,
     script: &Script<'_>,
@@ -101,14 +99,12 @@ fn sum<K: Sink>(
     name: Named,
     values: &mut [u32],
 ) -> Result<(), WriteFault>
-    requires { length values.old ≡ widest_row }
+    requires there { NamedIsThere (live_of desk.now) name }
+    requires values { length values.old ≡ widest_row }
     ensures { let text = option_map_or (sum_text script.now.names name) (surface_at desk.now name) [] in
         Puts text (K.written sink.old) (K.written sink.new) (K.faults sink.old) (K.faults sink.new) (is_err result) }
 {
-    let canvas = match desk.surface(name) {
-        Some(canvas) => canvas,
-        None => return Ok(()),
-    };
+    let canvas = desk.surface(name);
     let width = canvas.size().w as usize;
     put_sum(sink, script, name, canvas, &mut values[..width])
 }
@@ -122,7 +118,7 @@ fn draw<K: Sink>(
     command: &DeskCommand,
     sink: &mut K,
 ) -> Outcome
-    requires { CanDraw command.now }
+    requires { CanDraw (live_of desk.old) command.now }
     ensures { let asked_for = asked.Draw command.now in
         CameOut script.now.names number asked_for desk.old desk.new (K.written sink.old) (K.written sink.new) (K.faults sink.old) (K.faults sink.new) result }
 {
@@ -157,7 +153,7 @@ fn carry_out<K: Sink>(
     line: &mut [u8],
     sink: &mut K,
 ) -> Outcome
-    requires can { CanDo command.now }
+    requires can { CanDo (live_of desk.old) command.now }
     requires values { length values.old ≡ widest_row }
     requires line { length line.old ≡ longest_line }
     ensures { CameOut script.now.names number command.now desk.old desk.new
@@ -190,7 +186,7 @@ pub fn run_all<K: Sink>(
     line: &mut [u8],
     sink: &mut K,
 ) -> Ended
-    requires can { All CanDo commands.now }
+    requires can { CanRun (live_of desk.old) commands.now }
     requires few { length commands.now ≤ 100000 }
     requires values { length values.old ≡ widest_row }
     requires line { length line.old ≡ longest_line }

@@ -4,9 +4,9 @@ ghost use Rattle.std.specs.Prelude.{◌≡◌, length, is_err};
 ghost use Rattle.desk_io.specs.Sinks.{Puts};
 ghost use Rattle.desk_run.specs.Texts.{sum_of, sum_on, sum_text};
 
-use crate::canvas::Canvas;
 use crate::text::sum_line;
 use desk_io::{Sink, WriteFault, write_all};
+use desk_span::Canvas;
 use script_orders::{Named, Script};
 
 /// A sum with the values of a row: for each value 31 times the sum so far and the value, within 64 bits.

@@ -2,7 +2,7 @@
 
 ghost use Rattle.std.specs.Prelude.{◌≡◌, ◌≤◌, ◌+◌, ◌*◌, ◌<◌, ◌++◌, [], length, decimal, codes};
 ghost use Rattle.arrayvec.specs.ArrayVec.{array_vec_len};
-ghost use Rattle.desk_run.specs.Reports.{memory};
+ghost use Rattle.desk_span.specs.Reports.{memory};
 ghost use Rattle.desk_run.specs.Texts as spec;
 
 use crate::dump::put_hex;

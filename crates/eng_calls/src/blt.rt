@@ -47,7 +47,7 @@ impl DrawsRect for Blitting<'_> {
     }
 }
 
-/// DrawsRect a raster operation in the rectangles of a clip that lies in the target. The source is `src`, or the target itself where
+/// Draws a raster operation in the rectangles of a clip that lies in the target. The source is `src`, or the target itself where
 /// the call names a source that is held and no view is lent; then it is read as it was before the call. `xlate` leads from the
 /// source to the target, and `table` is the target's. A point for which a source or a mask that is needed has no point is untouched.
 ///
@@ -84,7 +84,7 @@ pub fn eng_bit_blt(
     Ok(())
 }
 
-/// DrawsRect a raster operation in the rectangles of a clip, from a source that is read as it was before the call.
+/// Draws a raster operation in the rectangles of a clip, from a source that is read as it was before the call.
 fn blt_clip(
     dst: &mut LentSurf<'_>,
     call: &BltCall,

@@ -13,7 +13,7 @@ use clip_obj::ClipObj;
 use pix_format::XlateObj;
 use surf_obj::{LentSurf, LentView};
 
-/// DrawsRect a copy in the rectangles of a clip that lies in the target. The source is `src`, or the target itself where the call
+/// Draws a copy in the rectangles of a clip that lies in the target. The source is `src`, or the target itself where the call
 /// names a source that is held and no view is lent; then it is read as it was before the call. `xlate` leads from the source to
 /// the target. A point for which the source has none is untouched.
 pub fn eng_copy_bits(

@@ -11,19 +11,11 @@ ghost use Rattle.clip_obj.specs.Order.{ordered, ComesBefore};
 ghost use Rattle.eng_calls.specs.Steps.{Rule, step_by_step, StepsAreOne};
 
 use clip_obj::{ClipObj, Direction};
-use geom_base::Rect;
+use geom_base::{NO_RECT, Rect};
 use surf_obj::LentSurf;
 
 /// The rectangles that are handed out at once.
 const BATCH: usize = 16;
-
-/// A place in a batch, before it is filled.
-const NO_RECT: Rect = Rect {
-    left: 0,
-    top: 0,
-    right: 0,
-    bottom: 0,
-};
 
 /// A call on one surface.
 pub trait DrawsRect {
@@ -33,7 +25,7 @@ pub trait DrawsRect {
     /// what it gives on a surface of a size and a format, from the values that it finds
     ghost gives: { Self → Size → Format → Rule };
 
-    /// DrawsRect the call's part in a rectangle.
+    /// Draws the call's part in a rectangle.
     fn draw(&self, dst: &mut LentSurf<'_>, rect: &Rect)
         requires fits { fits self.now (format_of dst.old) }
         requires inside { LiesIn rect.now (size_of dst.old) }
@@ -42,7 +34,7 @@ pub trait DrawsRect {
         ensures only { OnlyPixels dst.old dst.new };
 }
 
-/// DrawsRect a call in one rectangle after the other.
+/// Draws a call in one rectangle after the other.
 fn draw_rects<D: DrawsRect>(call: &D, dst: &mut LentSurf<'_>, rects: &[Rect])
     requires fits { D.fits call.now (format_of dst.old) }
     requires inside { All (λ r. LiesIn r (size_of dst.old)) rects.now }
@@ -55,7 +47,7 @@ fn draw_rects<D: DrawsRect>(call: &D, dst: &mut LentSurf<'_>, rects: &[Rect])
     }
 }
 
-/// DrawsRect a call in the rectangles of a clip, in the order of a direction.
+/// Draws a call in the rectangles of a clip, in the order of a direction.
 pub fn draw_clip<D: DrawsRect>(
     call: &D,
     dst: &mut LentSurf<'_>,

@@ -36,7 +36,7 @@ impl DrawsRect for Painting<'_> {
     }
 }
 
-/// DrawsRect a paint in the rectangles of a clip that lies in the target. `table` is the target's.
+/// Draws a paint in the rectangles of a clip that lies in the target. `table` is the target's.
 pub fn eng_paint(
     dst: &mut LentSurf<'_>,
     call: &PaintCall,

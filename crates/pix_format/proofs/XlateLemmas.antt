@@ -1,4 +1,5 @@
-use Rattle.std.proofs.Common.{◌≡◌, ℕ, ◌+◌, ◌<◌, ◌≤◌, ◌^◌, List, [], ◌∷◌, ◌++◌, Vec, Global, length, get_or, map, All, Bool, true, false, cond, arith, refl, ap, ◌∙◌}
+use Rattle.std.proofs.Common.{◌≡◌, ℕ, ◌+◌, ◌<◌, ◌≤◌, ◌^◌, List, [], ◌∷◌, ◌++◌, Vec, Global, length, get_or, map}
+use Rattle.std.proofs.Common.{All, Bool, true, false, cond, arith, refl, ap, ◌∙◌}
 use Rattle.std.specs.Prelude.{EachIndex, slice_index, ◌↔◌, nat_le}
 use Rattle.std.specs.List.{range_with_len}
 use Rattle.std.proofs.lemmas.Bool.Decides.{nat_tests}

@@ -143,7 +143,7 @@ fn index_of(value: u32, table: &[Rgb], asked: &mut [u32], found: &mut [u32]) -> 
     ensures index { result ≡ colour.nearest table.now (packing.unpacked888 value) }
     ensures kept { KeepsNearest table.now asked.new found.new }
 {
-    let place = place_of(value);
+    let place = kept_place(value);
     if asked[place] != value {
         asked[place] = value;
         found[place] = nearest(table, unpacked888(value)) as u32;
@@ -152,7 +152,7 @@ fn index_of(value: u32, table: &[Rgb], asked: &mut [u32], found: &mut [u32]) -> 
 }
 
 /// A place among 64 for a value: the high bits of a product, in which neighbours are apart.
-fn place_of(value: u32) -> usize
+fn kept_place(value: u32) -> usize
     ensures { result < 64 }
 {
     (value.wrapping_mul(0x9e37_79b1) / 0x400_0000) as usize

@@ -1,5 +1,6 @@
 -- One word of a line, where names count: its value, or its first refusal.
-use Rattle.std.specs.Prelude.{ℕ, List, drop, slice_index, codes, Option, Some, None, is_none, Result, Ok, Err, Bool, true, ◌==◌, ◌&&◌, ◌||◌, nat_le, not, if◌then◌else◌}
+use Rattle.std.specs.Prelude.{ℕ, List, drop, slice_index, codes, Option, Some, None, is_none, Result, Ok, Err}
+use Rattle.std.specs.Prelude.{Bool, true, ◌==◌, ◌&&◌, ◌||◌, nat_le, not, if◌then◌else◌}
 use Rattle.std.specs.Char.{is_ascii_alphabetic}
 use Rattle.std.specs.Str.{bytes_eq}
 use Rattle.geom_base.specs.declared.rect.Rect.{Rect}
@@ -18,7 +19,7 @@ use Rattle.script_words.specs.Asking.{◌>>=◌, ask}
 use Rattle.script_words.specs.Lines.{word_at}
 use Rattle.script_words.specs.Places.{colour_in}
 use Rattle.script_words.specs.Spelling.{hexadecimal_in, count_in, is_new_name}
-use Rattle.script_orders.specs.Limits.{most_pattern_side}
+use Rattle.brush_obj.specs.Image.{most_pattern_side}
 use Rattle.script_orders.specs.declared.desk_command.Spot.{Spot}
 use Rattle.script_orders.specs.declared.desk_command.Spot.TheVariants as spots
 use Rattle.script_orders.specs.declared.desk_command.BrushUse.{BrushUse}

@@ -6,7 +6,8 @@ ghost use Rattle.script_names.specs.Fields.{solid_in, hatched_in, pattern_in, fa
 
 use crate::fields::{bitmap, hatch};
 use crate::names::Names;
-use script_orders::{FaceOrder, MOST_PATTERN_SIDE};
+use brush_obj::MOST_PATTERN_SIDE;
+use script_orders::FaceOrder;
 use script_words::{Refusal, colour, word};
 
 /// solid C

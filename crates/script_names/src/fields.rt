@@ -6,7 +6,8 @@ ghost use Rattle.pix_format.specs.Value.{colours_of};
 ghost use Rattle.script_words.specs.Asking.{ReadsAs};
 ghost use Rattle.script_words.specs.Bounds.{most_name_bytes};
 ghost use Rattle.script_names.specs.Names.{names_of};
-ghost use Rattle.script_names.specs.Fields.{new_name, spot_in, bitmap_in, region_in, clip_in, table_in, is_dash, spot_or_none, bitmap_or_none, brush_in, brush_or_none, format_in, value_in, hatch_in, mix_in, named_in};
+ghost use Rattle.script_names.specs.Fields.{new_name, spot_in, bitmap_in, region_in, clip_in, table_in, is_dash, spot_or_none};
+ghost use Rattle.script_names.specs.Fields.{bitmap_or_none, brush_in, brush_or_none, format_in, value_in, hatch_in, mix_in, named_in};
 
 use crate::entry::{Bitmap, Entry};
 use crate::names::Names;

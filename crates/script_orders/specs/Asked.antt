@@ -1,19 +1,18 @@
 -- What a script asks for.
 use Rattle.std.specs.Prelude.{◌≡◌, ◌≢◌, ◌≤◌, ◌*◌, ℕ, List, length, Option, Some}
 use Rattle.geom_base.specs.declared.size.Size.{Size}
+use Rattle.geom_base.specs.Points.{most_side}
 use Rattle.pix_format.specs.Value.{colours_of}
 use Rattle.script_orders.specs.declared.desk_command.Spot.{Spot}
 use Rattle.script_orders.specs.declared.desk_command.Spot.TheVariants as spots
 use Rattle.script_orders.specs.declared.orders.CreateOrder.{CreateOrder}
 use Rattle.brush_obj.specs.declared.draw_call.DrawCall.{DrawCall}
 use Rattle.brush_obj.specs.declared.draw_call.DrawCall.TheVariants.{Copy}
-use Rattle.script_orders.specs.declared.desk_command.DeskCommand.{DeskCommand}
 use Rattle.script_orders.specs.declared.desk_command.Feed.{Feed}
 use Rattle.script_orders.specs.declared.desk_command.Feed.TheVariants.{Row}
-use Rattle.script_orders.specs.Limits.{most_side, most_pixels}
+use Rattle.script_orders.specs.Limits.{most_pixels}
 use Rattle.script_orders.specs.Rows.{row_rect, zero_point}
 use Rattle.script_orders.specs.declared.script_command.ScriptCommand.{ScriptCommand}
-use Rattle.script_orders.specs.declared.script_command.ScriptCommand.TheVariants.{Create, Delete, Brush, Draw, Dump, Sum, Nothing}
 
 -- its commands in order, and the names of the bitmaps that it makes, each in the place of its number
 pub record Asked : Type 0 where
@@ -43,18 +42,3 @@ abbrev pub RowIsCopied : Feed → DrawCall → Type 0
 RowIsCopied (Row values) (Copy c) = (c.src ≡ zero_point) × (c.rect ≡ row_rect (record { x = c.rect.left; y = c.rect.top }) (length values))
 RowIsCopied (Row values) call = ⊥
 RowIsCopied feed call = Unit {0}
-
--- a drawing can be done: no bitmap is its own mask, and a row of values is copied
-pub record CanDraw (c : DeskCommand) : Type 0 where
-  pub mask : MaskIsOther c.target c.mask
-  pub row : RowIsCopied c.source c.call
-
--- what each command of an accepted script keeps to
-abbrev pub CanDo : ScriptCommand → Type 0
-CanDo (Create o) = CanCreate o
-CanDo (Draw c) = CanDraw c
-CanDo (Delete n) = Unit {0}
-CanDo (Brush o) = Unit {0}
-CanDo (Dump q) = Unit {0}
-CanDo (Sum q) = Unit {0}
-CanDo Nothing = Unit {0}

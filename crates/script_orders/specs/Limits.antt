@@ -19,23 +19,13 @@ most_tables = 256
 abbrev pub most_bitmaps : ℕ
 most_bitmaps = 4096
 
--- pixels of a side of a surface, of a surface, and of all bitmaps in use together
-abbrev pub most_side : ℕ
-most_side = 4096
-
+-- pixels of a surface, and of all bitmaps in use together
 abbrev pub most_pixels : ℕ
 most_pixels = 4194304
 
 abbrev pub most_bitmap_pixels : ℕ
 most_bitmap_pixels = 16777216
 
--- pixels of a side of a brush's pattern
-abbrev pub most_pattern_side : ℕ
-most_pattern_side = 64
-
--- rectangles of a region, and of all named regions together
-abbrev pub most_rects : ℕ
-most_rects = 4096
-
+-- rectangles of all named regions together
 abbrev pub most_region_rects : ℕ
 most_region_rects = 262144

@@ -1,7 +1,8 @@
 //! What a script asks for: its commands in order, and the names of the bitmaps that it makes.
 //!
-//! `Asked` of `specs/Asked.antt` is the whole as a list, and `CanDo` what each command of an accepted script keeps to; a script's limits
-//! stand in `specs/Limits.antt`. A row of pixel values is drawn on the rectangle that `row_rect` of `specs/Rows.antt` gives.
+//! `Asked` of `specs/Asked.antt` is the whole as a list, and `CanRun` of `specs/Live.antt` what the commands of an accepted script keep
+//! to: each names only what is there when its turn comes. A script's limits stand in `specs/Limits.antt`. A row of pixel values is drawn
+//! on the rectangle that `row_rect` of `specs/Rows.antt` gives.
 #![tactic(auto)]
 
 mod desk_command;
@@ -15,8 +16,8 @@ mod values;
 
 pub use desk_command::{BrushUse, DeskCommand, Feed, Spot};
 pub use limits::{
-    MOST_BITMAP_PIXELS, MOST_BITMAPS, MOST_BRUSHES, MOST_COMMANDS, MOST_NAMES, MOST_PATTERN_SIDE,
-    MOST_PIXELS, MOST_REGION_RECTS, MOST_SIDE, MOST_TABLES,
+    MOST_BITMAP_PIXELS, MOST_BITMAPS, MOST_BRUSHES, MOST_COMMANDS, MOST_NAMES, MOST_PIXELS,
+    MOST_REGION_RECTS, MOST_TABLES,
 };
 pub use named::Named;
 pub use named_region::NamedRegion;

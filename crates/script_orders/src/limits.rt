@@ -15,17 +15,11 @@ pub const MOST_TABLES: u32 = 256;
 /// Bitmaps in use.
 pub const MOST_BITMAPS: u32 = 4_096;
 
-/// Pixels of a side of a surface.
-pub const MOST_SIDE: u32 = 4_096;
-
 /// Pixels of a surface.
 pub const MOST_PIXELS: u64 = 4_194_304;
 
 /// Pixels of all bitmaps in use together.
 pub const MOST_BITMAP_PIXELS: u64 = 16_777_216;
-
-/// Pixels of a side of a brush's pattern.
-pub const MOST_PATTERN_SIDE: u32 = 64;
 
 /// Rectangles of all named regions together.
 pub const MOST_REGION_RECTS: u32 = 262_144;

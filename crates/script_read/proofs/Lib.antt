@@ -1,3 +1,6 @@
 pub mod ScriptLemmas
+pub mod KnowsLemmas
+pub mod ThereLemmas
+pub mod MeaningLemmas
 pub mod RegionLemmas
 pub mod VerbLemmas

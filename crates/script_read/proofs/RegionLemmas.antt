@@ -1,4 +1,5 @@
-use Rattle.std.proofs.Common.{◌≡◌, ◌∙◌, ap, sym, subst, refl, arith, map, length, List, [], ◌∷◌, Bool, true, false, ℕ, drop, nat_le, Some, if◌then◌else◌, Result, Ok, Err, ◌≤◌, ℤ, ◌↔◌, IsTrue}
+use Rattle.std.proofs.Common.{◌≡◌, ◌∙◌, ap, sym, subst, refl, arith, map, length, List, [], ◌∷◌, Bool, true, false, ℕ, drop}
+use Rattle.std.proofs.Common.{nat_le, Some, if◌then◌else◌, Result, Ok, Err, ◌≤◌, ℤ, ◌↔◌, IsTrue}
 use Rattle.std.specs.List.{All, list_all}
 use Rattle.std.proofs.lemmas.Bool.{and_parts}
 use Rattle.std.specs.Cmp.Derive.{both_true}
@@ -9,6 +10,7 @@ use Rattle.geom_base.specs.declared.point.Point.{Point}
 use Rattle.geom_base.specs.declared.rect.Rect.{Rect}
 use Rattle.geom_base.specs.Points.{is_in_some, moved_rect}
 use Rattle.geom_base.specs.Tests.{same_tests}
+use Rattle.region.specs.Limits.{most_rects}
 use Rattle.region.specs.declared.refusal.RegionRefusal.{RegionRefusal}
 use Rattle.region.specs.declared.refusal.RegionRefusal.TheVariants.{TooMany, NoMemory}
 use Rattle.region.specs.Canonical.{canonical_rects, Gives}
@@ -20,7 +22,6 @@ use Rattle.script_words.specs.declared.refusal.Refusal.TheVariants.{Range, PastL
 use Rattle.script_words.specs.Lines.{word_at}
 use Rattle.script_words.specs.Places.{IsCoordinate, AreCoordinates, is_well_ordered}
 use Rattle.region.specs.declared.operation.Operation.{Operation}
-use Rattle.script_orders.specs.Limits.{most_rects}
 use Rattle.script_read.specs.Commands.{has_room_for_rects, keep_region, read_region}
 use Rattle.script_names.specs.Names.{NameMap}
 use Rattle.script_names.specs.Fields.{region_in}

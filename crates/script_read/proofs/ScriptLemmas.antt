@@ -1,8 +1,8 @@
-use Rattle.std.proofs.Common.{◌≡◌, ℕ, ◌+◌, ◌≤◌, ◌<◌, Option, Some, None, List, [], ◌∷◌, ◌++◌, length, Result, Ok, Err, append_assoc, append-nil, length-append, ◌∙◌, sym, ap, refl, arith}
-use Rattle.std.specs.Prelude.{All, IfSome}
+use Rattle.std.proofs.Common.{◌≡◌, ℕ, ◌+◌, ◌≤◌, ◌<◌, Option, Some, None, List, [], ◌∷◌, ◌++◌, length, Result, Ok, Err}
+use Rattle.std.proofs.Common.{append_assoc, append-nil, length-append, ◌∙◌, sym, ap, refl, arith}
+use Rattle.std.specs.Prelude.{IfSome}
 use Rattle.std.specs.Option.{option_to_list}
-use Rattle.std.proofs.lemmas.List.Elements.{All-push}
-use Rattle.script_orders.specs.Asked.{Asked, CanDo}
+use Rattle.script_orders.specs.Asked.{Asked}
 use Rattle.script_orders.specs.Limits.{most_commands}
 use Rattle.script_orders.specs.declared.script_command.ScriptCommand.{ScriptCommand}
 use Rattle.script_words.specs.declared.refusal.Refusal.{Refusal}
@@ -77,12 +77,6 @@ pub few_more : (commands : List ScriptCommand) (asked : Option ScriptCommand) �
     IfSome asked (λ c. length commands < most_commands) → length (commands ++ option_to_list asked) ≤ most_commands
 few_more commands None h few = rw append-nil h
 few_more commands (Some c) h few = omega (arith, length-append commands (c ∷ []))
-
--- one more command, if any, can be done
-pub can_more : (commands : List ScriptCommand) (asked : Option ScriptCommand) → All CanDo commands → IfSome asked CanDo →
-    All CanDo (commands ++ option_to_list asked)
-can_more commands None h can = rw append-nil h
-can_more commands (Some c) h can = All-push CanDo commands c h can
 
 -- no more bitmaps are made than commands are read
 pub made_more : (commands : List ScriptCommand) (asked : Option ScriptCommand) (made after : ℕ) → made ≤ length commands →

@@ -1,18 +1,23 @@
 -- The commands, one for each word: how many words a line has, and what it means.
-use Rattle.std.specs.Prelude.{ℕ, ◌+◌, ◌-◌, ◌*◌, ◌%◌, is_some, List, [], ◌∷◌, ◌++◌, length, drop, codes, None, Result, Ok, Err, ◌==◌, nat_lt, nat_le, Bool, ◌&&◌, ◌||◌, if◌then◌else◌}
+use Rattle.std.specs.Prelude.{ℕ, ◌+◌, ◌-◌, ◌*◌, ◌%◌, is_some, List, [], ◌∷◌, ◌++◌, length, drop, codes, None, Result}
+use Rattle.std.specs.Prelude.{Ok, Err, ◌==◌, nat_lt, nat_le, Bool, ◌&&◌, ◌||◌, if◌then◌else◌}
 use Rattle.std.specs.Str.{bytes_eq}
 use Rattle.geom_base.specs.declared.size.Size.{Size}
 use Rattle.geom_base.specs.declared.rect.Rect.{Rect}
+use Rattle.geom_base.specs.Points.{most_side}
+use Rattle.region.specs.Limits.{most_rects}
 use Rattle.pix_format.specs.Value.{colours_of}
 use Rattle.rop_mix.specs.Needs.{source_needed, mask_needed}
 use Rattle.brush_obj.specs.declared.draw_call.DrawCall.TheVariants as calls
 use Rattle.script_words.specs.declared.refusal.Refusal.{Refusal}
-use Rattle.script_words.specs.declared.refusal.Refusal.TheVariants.{UnknownCommand, WordCount, NotOrdered, OperandMissing, MaskNotMono, MaskIsTarget, PastLimit, RegionTooLarge, TooManyCommands, TableMisfit}
+use Rattle.script_words.specs.declared.refusal.Refusal.TheVariants.{UnknownCommand, WordCount, NotOrdered, OperandMissing}
+use Rattle.script_words.specs.declared.refusal.Refusal.TheVariants.{MaskNotMono, MaskIsTarget, PastLimit, RegionTooLarge}
+use Rattle.script_words.specs.declared.refusal.Refusal.TheVariants.{TooManyCommands, TableMisfit}
 use Rattle.script_words.specs.Asking.{◌>>=◌, ask, each}
 use Rattle.script_words.specs.Lines.{word_at}
 use Rattle.script_words.specs.Places.{colour_in, rect_in, point_in, is_well_ordered}
 use Rattle.script_words.specs.Spelling.{count_in, hexadecimal_in}
-use Rattle.script_orders.specs.Limits.{most_commands, most_names, most_brushes, most_tables, most_bitmaps, most_side, most_pixels, most_bitmap_pixels, most_rects, most_region_rects}
+use Rattle.script_orders.specs.Limits.{most_commands, most_names, most_brushes, most_tables, most_bitmaps, most_pixels, most_bitmap_pixels, most_region_rects}
 use Rattle.script_orders.specs.declared.desk_command.BrushUse.TheVariants as uses
 use Rattle.script_orders.specs.declared.desk_command.Feed.TheVariants as feeds
 use Rattle.script_orders.specs.declared.desk_command.Spot.TheVariants as spots
@@ -22,8 +27,10 @@ use Rattle.script_orders.specs.declared.script_command.ScriptCommand.TheVariants
 use Rattle.script_read.specs.declared.verb.Verb.{Verb}
 use Rattle.script_read.specs.declared.verb.Verb.TheVariants as verbs
 use Rattle.script_orders.specs.Rows.{row_rect, zero_point}
-use Rattle.script_read.specs.Drawing.{feed_from, needed_feed, needed_mask, has_operands, is_mono_mask, is_other, number_of_mask, blt_from, copy_from, paint_from}
-use Rattle.script_names.specs.Fields.{new_name, spot_in, bitmap_in, spot_or_none, bitmap_or_none, brush_in, brush_or_none, format_in, table_in, value_in, face_in, mix_in, named_in, clip_in, operation_of}
+use Rattle.script_read.specs.Drawing.{feed_from, needed_feed, needed_mask, has_operands, is_mono_mask}
+use Rattle.script_read.specs.Drawing.{is_other, number_of_mask, blt_from, copy_from, paint_from}
+use Rattle.script_names.specs.Fields.{new_name, spot_in, bitmap_in, spot_or_none, bitmap_or_none, brush_in, brush_or_none}
+use Rattle.script_names.specs.Fields.{format_in, table_in, value_in, face_in, mix_in, named_in, clip_in, operation_of}
 use Rattle.script_names.specs.Names.{NameMap, brush, bitmap, region, table, with_name, without_name}
 use Rattle.script_read.specs.Regions.{named_region_in}
 use Rattle.script_read.specs.State.{ReaderState}

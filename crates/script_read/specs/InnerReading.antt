@@ -2,6 +2,7 @@
 use Rattle.std.specs.Prelude.{◌≡◌, ◌<◌, ◌≤◌, ℕ, List, length, map, Option, Result, Ok, Err}
 use Rattle.std.specs.Option.{option_to_list}
 use Rattle.geom_base.specs.declared.rect.Rect.{Rect}
+use Rattle.region.specs.Limits.{most_rects}
 use Rattle.region.specs.declared.refusal.RegionRefusal.{RegionRefusal}
 use Rattle.region.specs.declared.refusal.RegionRefusal.TheVariants.{TooMany, NoMemory}
 use Rattle.region.specs.Window.{Within}
@@ -9,7 +10,6 @@ use Rattle.script_words.specs.Asking.{FailsAs}
 use Rattle.script_words.specs.declared.refusal.Refusal.{Refusal}
 use Rattle.script_words.specs.declared.refusal.ReadError.{ReadError}
 use Rattle.script_words.specs.declared.refusal.ReadError.TheVariants as errors
-use Rattle.script_orders.specs.Limits.{most_rects}
 use Rattle.script_orders.specs.declared.script_command.ScriptCommand.{ScriptCommand}
 use Rattle.script_names.specs.Names.{names_of}
 use Rattle.script_read.specs.declared.reader.Reader.{Reader}

@@ -4,3 +4,4 @@ pub mod State
 pub mod Commands
 pub mod Reading
 pub mod InnerReading
+pub mod InnerKnows

@@ -2,7 +2,6 @@
 
 ghost use Rattle.std.specs.Prelude.{◌≡◌, ◌≤◌, ◌≤ℤ◌, IfOk, length, map};
 ghost use Rattle.script_words.specs.Bounds.{greatest_point};
-ghost use Rattle.script_orders.specs.Asked.{CanDo};
 ghost use Rattle.brush_obj.specs.declared.draw_call.DrawCall.TheVariants as calls;
 ghost use Rattle.script_orders.specs.Rows.{row_end, row_rect};
 ghost use Rattle.script_read.specs.Drawing.{blt_from, copy_from, paint_from};
@@ -40,7 +39,6 @@ fn blt_from(rect: Rect, src: Point, mask: Point, origin: Point, rop: Rop4) -> Dr
 #[tactic(auto, unfolding(crate::specs::Commands::read_blt))]
 pub fn blt(reader: &Reader<'_>, words: &[&[u8]]) -> Result<ScriptCommand, ReadError>
     ensures value { ReadsLine result (state_of reader.now) (read_blt (state_of reader.now) (map (λ w. w.now) words.now)) }
-    ensures can { IfOk result CanDo }
 {
     let target = spot(&reader.names, word(words, 1))?;
     let rect = rect(words, 2)?;
@@ -91,7 +89,6 @@ fn copy_from(rect: Rect, src: Point) -> DrawCall
 #[tactic(auto, unfolding(crate::specs::Commands::read_copy))]
 pub fn copy(reader: &Reader<'_>, words: &[&[u8]]) -> Result<ScriptCommand, ReadError>
     ensures value { ReadsLine result (state_of reader.now) (read_copy (state_of reader.now) (map (λ w. w.now) words.now)) }
-    ensures can { IfOk result CanDo }
 {
     let target = spot(&reader.names, word(words, 1))?;
     let rect = rect(words, 2)?;
@@ -128,7 +125,6 @@ fn paint_from(rect: Rect, origin: Point, mix: Mix) -> DrawCall
 #[tactic(auto, unfolding(crate::specs::Commands::read_paint))]
 pub fn paint(reader: &Reader<'_>, words: &[&[u8]]) -> Result<ScriptCommand, ReadError>
     ensures value { ReadsLine result (state_of reader.now) (read_paint (state_of reader.now) (map (λ w. w.now) words.now)) }
-    ensures can { IfOk result CanDo }
 {
     let target = spot(&reader.names, word(words, 1))?;
     let rect = rect(words, 2)?;
@@ -158,7 +154,6 @@ pub fn pixels(
 ) -> Result<ScriptCommand, ReadError>
     requires { 4 ≤ length words.now }
     ensures value { ReadsLine result (state_of reader.now) (read_pixels (state_of reader.now) (map (λ w. w.now) words.now)) }
-    ensures can { IfOk result CanDo }
 {
     let bitmap = bitmap(&reader.names, word(words, 1))?;
     let at = point(words, 2)?;

@@ -1,19 +1,16 @@
 //! The lines that make a name or free one.
 
-ghost use Rattle.std.specs.Prelude.{◌≡◌, ◌<◌, ◌≤◌, ◌+◌, IfOk, IsTrue, OnOk, length, map};
+ghost use Rattle.std.specs.Prelude.{◌≡◌, ◌<◌, ◌≤◌, ◌+◌, ◌*◌, IfOk, IsTrue, OnOk, length, map};
 ghost use Rattle.script_words.specs.Lines.{word_at};
-ghost use Rattle.pix_format.specs.Value.{colours_of};
-ghost use Rattle.geom_base.specs.Points.{HasSides};
 ghost use Rattle.script_words.specs.Asking.{ReadsAs};
 ghost use Rattle.script_words.specs.Bounds.{most_name_bytes};
-ghost use Rattle.script_orders.specs.Limits.{most_commands};
-ghost use Rattle.script_orders.specs.Asked.{CanDo, IsSurfaceSize};
+ghost use Rattle.script_orders.specs.Limits.{most_bitmap_pixels, most_commands};
 ghost use Rattle.script_names.specs.Names.{names_of};
 ghost use Rattle.script_read.specs.InnerReading.{ReadsLine, state_of};
 ghost use Rattle.script_read.specs.Commands.{has_room, has_room_for, create_in, keep_bitmap, read_bitmap, read_brush, read_delete, read_table};
 
 use crate::reader::Reader;
-use geom_base::Size;
+use geom_base::{MOST_SIDE, Size};
 use pix_format::ColourTable;
 use script_names::{
     Bitmap, Entry, Names, bitmap as known_bitmap, colours, face, format, new_name,
@@ -21,7 +18,7 @@ use script_names::{
 };
 use script_orders::{
     BrushOrder, CreateOrder, MOST_BITMAP_PIXELS, MOST_BITMAPS, MOST_BRUSHES, MOST_NAMES,
-    MOST_PIXELS, MOST_SIDE, MOST_TABLES, ScriptCommand,
+    MOST_PIXELS, MOST_TABLES, ScriptCommand,
 };
 use script_words::{ReadError, Refusal, count, word};
 use std::alloc::Global;
@@ -42,7 +39,6 @@ pub fn table<'a>(
 ) -> Result<ScriptCommand, ReadError>
     requires { 2 ≤ length words.now }
     ensures value { ReadsLine result (state_of reader.new) (read_table (state_of reader.old) (map (λ w. w.now) words.now)) }
-    ensures can { IfOk result CanDo }
     ensures made { IfOk result (λ _. length reader.new.made.items ≤ length reader.old.made.items + 1) }
 {
     let name = word(words, 1);
@@ -62,7 +58,6 @@ pub fn table<'a>(
 #[tactic(auto, unfolding(crate::specs::Commands::read_brush))]
 pub fn brush<'a>(reader: &mut Reader<'a>, words: &[&'a [u8]]) -> Result<ScriptCommand, ReadError>
     ensures value { ReadsLine result (state_of reader.new) (read_brush (state_of reader.old) (map (λ w. w.now) words.now)) }
-    ensures can { IfOk result CanDo }
     ensures made { IfOk result (λ _. length reader.new.made.items ≤ length reader.old.made.items + 1) }
 {
     let name = word(words, 1);
@@ -92,8 +87,6 @@ fn create(
 ) -> Result<CreateOrder, ReadError>
     ensures value { ReadsAs (λ o. o) result (create_in (names_of names.now) number (map (λ w. w.now) words.now)) }
     ensures name { OnOk result (length (word_at (map (λ w. w.now) words.now) 1) ≤ most_name_bytes) }
-    ensures sides { IfOk result (λ o. HasSides o.size) }
-    ensures table { IfOk result (λ o. length o.table ≡ colours_of o.format) }
 {
     new_name(names, word(words, 1))?;
     let w = count(word(words, 2), 1, MOST_SIDE)?;
@@ -114,7 +107,7 @@ fn create(
 /// One more bitmap of a size fits.
 fn has_room_for(reader: &Reader<'_>, size: Size) -> bool
     ensures value { result ≡ has_room_for (state_of reader.now) size }
-    ensures fits { IsTrue result → HasSides size → IsSurfaceSize size }
+    ensures fits { IsTrue result → reader.now.pixels + size.w * size.h ≤ most_bitmap_pixels }
 {
     let pixels = u64::from(size.w) * u64::from(size.h);
     has_room(reader)
@@ -130,11 +123,8 @@ fn keep_bitmap<'a>(
     name: &'a [u8],
     order: CreateOrder,
 ) -> Result<ScriptCommand, ReadError>
-    requires name { length name.now ≤ most_name_bytes }
-    requires sides { HasSides order.size }
-    requires table { length order.table ≡ colours_of order.format }
+    requires { length name.now ≤ most_name_bytes }
     ensures value { ReadsLine result (state_of reader.new) (keep_bitmap (state_of reader.old) name.now order) }
-    ensures can { IfOk result CanDo }
     ensures made { IfOk result (λ _. length reader.new.made.items ≤ length reader.old.made.items + 1) }
 {
     if !has_room_for(reader, order.size) {
@@ -162,7 +152,6 @@ pub fn bitmap<'a>(
 ) -> Result<ScriptCommand, ReadError>
     requires { length reader.old.made.items < most_commands }
     ensures value { ReadsLine result (state_of reader.new) (read_bitmap (state_of reader.old) (map (λ w. w.now) words.now)) }
-    ensures can { IfOk result CanDo }
     ensures made { IfOk result (λ _. length reader.new.made.items ≤ length reader.old.made.items + 1) }
 {
     let number = reader.made.len() as u32;
@@ -174,7 +163,6 @@ pub fn bitmap<'a>(
 #[tactic(auto, unfolding(crate::specs::Commands::read_delete))]
 pub fn delete(reader: &mut Reader<'_>, words: &[&[u8]]) -> Result<ScriptCommand, ReadError>
     ensures value { ReadsLine result (state_of reader.new) (read_delete (state_of reader.old) (map (λ w. w.now) words.now)) }
-    ensures can { IfOk result CanDo }
     ensures made { IfOk result (λ _. length reader.new.made.items ≤ length reader.old.made.items + 1) }
 {
     let name = word(words, 1);

@@ -1,7 +1,6 @@
 //! What a raster operation needs, and whether it is given.
 
-ghost use Rattle.std.specs.Prelude.{◌≡◌, IsTrue};
-ghost use Rattle.script_orders.specs.Asked.{MaskIsOther};
+ghost use Rattle.std.specs.Prelude.{◌≡◌};
 ghost use Rattle.script_read.specs.Drawing.{feed_from, needed_feed, needed_mask, is_brush, has_operands, is_mono_mask, is_bitmap, is_other, number_of_mask};
 
 use rop_mix::{Rop4, needs_mask, needs_pattern, needs_source};
@@ -76,8 +75,7 @@ fn is_bitmap(spot: Spot, number: u32) -> bool
 
 /// A mask isn't what is drawn on.
 pub fn is_other(target: Spot, mask: Option<Bitmap>) -> bool
-    ensures value { result ≡ is_other target mask }
-    ensures other { IsTrue result → MaskIsOther target (number_of_mask mask) }
+    ensures { result ≡ is_other target mask }
 {
     match mask {
         Some(bitmap) => !is_bitmap(target, bitmap.number),

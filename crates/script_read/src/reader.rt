@@ -44,7 +44,6 @@ pub struct Reader<'a> {
 
 impl<'a> Reader<'a> {
     ghost use Rattle.std.specs.Option.{option_to_list};
-    ghost use Rattle.script_orders.specs.Asked.{CanDo};
     ghost use Rattle.script_orders.specs.Limits.{most_commands};
     ghost use Rattle.script_read.specs.InnerReading.{ReadsLine, ReadsTextLine, state_of};
     ghost use Rattle.script_read.specs.State.{first_reader_state};
@@ -88,7 +87,6 @@ impl<'a> Reader<'a> {
         requires { length self.old.made.items ≤ commands }
         ensures value { ReadsTextLine result (state_of self.new) (read_text_line commands (state_of self.old) line.now) }
         ensures few { IfOk result (λ asked. IfSome asked (λ _. commands < most_commands)) }
-        ensures can { IfOk result (λ asked. IfSome asked CanDo) }
         ensures made { IfOk result (λ asked. length self.new.made.items ≤ length self.old.made.items + length (option_to_list asked)) }
     {
         if line.first() == Some(&b'#') {
@@ -116,7 +114,6 @@ impl<'a> Reader<'a> {
     #[tactic(auto, unfolding(crate::specs::Commands::read_back))]
     fn set_back(&mut self, words: &[&[u8]]) -> Result<ScriptCommand, ReadError>
         ensures value { ReadsLine result (state_of self.new) (read_back (state_of self.old) (map (λ w. w.now) words.now)) }
-        ensures can { IfOk result CanDo }
         ensures made { IfOk result (λ _. length self.new.made.items ≤ length self.old.made.items + 1) }
     {
         self.back = colour(word(words, 1))?;
@@ -127,7 +124,6 @@ impl<'a> Reader<'a> {
     #[tactic(auto, unfolding(crate::specs::Commands::read_brushorg))]
     fn set_origin(&mut self, words: &[&[u8]]) -> Result<ScriptCommand, ReadError>
         ensures value { ReadsLine result (state_of self.new) (read_brushorg (state_of self.old) (map (λ w. w.now) words.now)) }
-        ensures can { IfOk result CanDo }
         ensures made { IfOk result (λ _. length self.new.made.items ≤ length self.old.made.items + 1) }
     {
         self.origin = point(words, 1)?;
@@ -138,7 +134,6 @@ impl<'a> Reader<'a> {
     #[tactic(auto, unfolding(crate::specs::Commands::read_clip))]
     fn set_clip(&mut self, words: &[&[u8]]) -> Result<ScriptCommand, ReadError>
         ensures value { ReadsLine result (state_of self.new) (read_clip (state_of self.old) (map (λ w. w.now) words.now)) }
-        ensures can { IfOk result CanDo }
         ensures made { IfOk result (λ _. length self.new.made.items ≤ length self.old.made.items + 1) }
     {
         self.clip = clip(&self.names, word(words, 1))?;
@@ -149,7 +144,6 @@ impl<'a> Reader<'a> {
     #[tactic(auto, unfolding(crate::specs::Commands::read_dump))]
     fn dump(&self, words: &[&[u8]]) -> Result<ScriptCommand, ReadError>
         ensures value { ReadsLine result (state_of self.now) (read_dump (state_of self.now) (map (λ w. w.now) words.now)) }
-        ensures can { IfOk result CanDo }
     {
         let surface = named(&self.names, word(words, 1))?;
         Ok(ScriptCommand::Dump(surface))
@@ -159,7 +153,6 @@ impl<'a> Reader<'a> {
     #[tactic(auto, unfolding(crate::specs::Commands::read_sum))]
     fn sum(&self, words: &[&[u8]]) -> Result<ScriptCommand, ReadError>
         ensures value { ReadsLine result (state_of self.now) (read_sum (state_of self.now) (map (λ w. w.now) words.now)) }
-        ensures can { IfOk result CanDo }
     {
         let surface = named(&self.names, word(words, 1))?;
         Ok(ScriptCommand::Sum(surface))
@@ -176,7 +169,6 @@ impl<'a> Reader<'a> {
         requires { length self.old.made.items ≤ commands }
         ensures value { ReadsLine result (state_of self.new) (read_line commands (state_of self.old) (map (λ w. w.now) words.now)) }
         ensures few { IfOk result (λ _. commands < most_commands) }
-        ensures can { IfOk result CanDo }
         ensures made { IfOk result (λ _. length self.new.made.items ≤ length self.old.made.items + 1) }
     {
         if commands >= MOST_COMMANDS {
@@ -201,7 +193,6 @@ impl<'a> Reader<'a> {
         requires form { verb ≡ Verb.Region → 3 ≤ length words.now }
         requires few { length self.old.made.items < most_commands }
         ensures value { ReadsLine result (state_of self.new) (meaning_of verb (state_of self.old) (map (λ w. w.now) words.now)) }
-        ensures can { IfOk result CanDo }
         ensures made { IfOk result (λ _. length self.new.made.items ≤ length self.old.made.items + 1) }
     {
         match verb {

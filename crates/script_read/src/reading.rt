@@ -3,8 +3,8 @@
 ghost use Rattle.std.specs.Prelude.{◌≡◌, ◌≤◌, ◌+◌, ◌<◌, ◌^◌, ◌++◌, All, IfOk, OnOk, length};
 ghost use Rattle.std.specs.Option.{option_to_list};
 ghost use Rattle.script_words.specs.Lines.{lines_of};
-ghost use Rattle.script_orders.specs.Asked.{CanDo};
 ghost use Rattle.script_orders.specs.Limits.{most_commands};
+ghost use Rattle.script_orders.specs.Live.{CanRun, first_live};
 ghost use Rattle.script_read.specs.InnerReading.{RefusesLine};
 ghost use Rattle.script_read.specs.Reading.{Answers, number_of_refusal, read_lines};
 ghost use Rattle.script_read.specs.State.{first_reader_state};
@@ -70,7 +70,7 @@ pub fn read_script<'a>(
     requires { first + length (lines_of text.now) < 2 ^ 64 }
     ensures value { Answers result (read_lines first 0 first_reader_state (lines_of text.now)) }
     ensures few { IfOk result (λ s. length s.commands ≤ most_commands) }
-    ensures can { IfOk result (λ s. All CanDo s.commands) }
+    ensures can { IfOk result (λ s. CanRun first_live s.commands) }
 {
     let mut reader = match Reader::new(alloc) {
         Ok(reader) => reader,

@@ -3,16 +3,16 @@
 ghost use Rattle.std.specs.Prelude.{◌≡◌, ◌<◌, ◌≤◌, ◌+◌, IfOk, IsTrue, length, map, nat_le, if◌then◌else◌};
 ghost use Rattle.std.specs.List.{All, list_all};
 ghost use Rattle.geom_base.specs.Points.{is_in_some, moved_rect};
+ghost use Rattle.region.specs.Limits.{most_rects};
 ghost use Rattle.region.specs.Canonical.{Gives, canonical_rects};
 ghost use Rattle.region.specs.Moved.{CanMove};
 ghost use Rattle.region.specs.Window.{Within};
 ghost use Rattle.script_words.specs.Places.{is_well_ordered};
 ghost use Rattle.script_words.specs.declared.refusal.Refusal.TheVariants.{PastLimit, RegionTooLarge};
-ghost use Rattle.script_orders.specs.Asked.{CanDo};
 ghost use Rattle.script_names.specs.Names.{names_of};
 ghost use Rattle.script_read.specs.InnerReading.{FindsRegion, ReadsLine, state_of};
 ghost use Rattle.script_names.specs.Fields.{operation_of};
-ghost use Rattle.script_orders.specs.Limits.{most_rects, most_region_rects};
+ghost use Rattle.script_orders.specs.Limits.{most_region_rects};
 ghost use Rattle.script_read.specs.Regions.{combined_in, distance_in, form_in, has_edges, listed_in, named_region_in, shift_in, shifted_in};
 ghost use Rattle.script_read.specs.Commands.{has_room_for_rects, keep_region, read_region};
 
@@ -151,7 +151,6 @@ fn keep_region<'a>(
     requires within { Within region }
     requires few { length region ≤ most_rects }
     ensures value { ReadsLine result (state_of reader.new) (keep_region (state_of reader.old) name.now region) }
-    ensures can { IfOk result CanDo }
     ensures made { IfOk result (λ _. length reader.new.made.items ≤ length reader.old.made.items + 1) }
 {
     let count = region.rects().len() as u32;
@@ -174,7 +173,6 @@ pub fn region<'a>(
 ) -> Result<ScriptCommand, ReadError>
     requires { 3 ≤ length words.now }
     ensures value { ReadsLine result (state_of reader.new) (read_region (state_of reader.old) (map (λ w. w.now) words.now)) }
-    ensures can { IfOk result CanDo }
     ensures made { IfOk result (λ _. length reader.new.made.items ≤ length reader.old.made.items + 1) }
 {
     match named_region(&reader.names, alloc, words)? {

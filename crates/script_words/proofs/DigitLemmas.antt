@@ -1,13 +1,14 @@
-use Rattle.std.proofs.Common.{◌≡◌, ℕ, ◌+◌, ◌*◌, ◌<◌, ◌≤◌, ◌^◌, true, List, [], ◌∷◌, Some, length, take, get_or, arith, ◌∙◌, sym, add-one}
+use Rattle.std.proofs.Common.{◌≡◌, ℕ, ◌+◌, ◌*◌, ◌<◌, ◌≤◌, ◌^◌, true, List, Some, length, take, get_or, arith, ◌∙◌, sym, add-one}
 use Rattle.std.proofs.lemmas.Bool.Decides.{nat_tests}
 use Rattle.std.proofs.Math.Nat.{pow-le-pow_right, mul-le-mul_left, pow-suc}
 use Rattle.std.proofs.lemmas.Int.Digits.{digits_value_more, digits_value-lt}
 use Rattle.std.proofs.lemmas.List.Folds.{list_all_more}
 use Rattle.std.specs.List.{list_all}
 use Rattle.std.specs.Char.{is_digit, digit_value}
-use Rattle.std.specs.Str.Parse.{digits_value, AllDigits}
+use Rattle.std.specs.Str.Parse.{digits_value}
 use Rattle.script_words.specs.Bounds.{most_digits, greatest_number}
 use Rattle.script_words.specs.Spelling.{digits_in}
+use Rattle.script_words.specs.SpellingLaws.{all_digits}
 use Rattle.std.proofs.lemmas.Option.{cond_some}
 
 -- a front of digits, with the number that it spells
@@ -38,10 +39,6 @@ one_digit_more base word i value digit b l d e front =
       small = step_small base value digit i b d front.small;
     }
 
-all_digits : (base : ℕ) (word : List ℕ) → list_all (λ c. is_digit c base) word ≡ true → AllDigits base word
-all_digits base [] e = tt
-all_digits base (x ∷ xs) e = (grind (arith, nat_tests, e), all_digits base xs (grind (arith, nat_tests, e)))
-
 -- decimal digits spell no number over the greatest
 pub within_greatest : (word : List ℕ) (n : ℕ) → Some n ≡ digits_in 10 most_digits word → n ≤ greatest_number
 within_greatest word n e =
@@ -51,11 +48,3 @@ within_greatest word n e =
     let bound = digits_value-lt 10 word (all_digits 10 word digits) in
     let power = pow-le-pow_right {n = 10} (omega arith) short in
     omega (arith, bound, power, w.1)
-
--- so many hexadecimal digits spell a number of so many bits
-pub below_power : (word : List ℕ) (n count : ℕ) → length word ≡ count → Some n ≡ digits_in 16 count word → n < 16 ^ count
-below_power word n count l e =
-    let w = cond_some _ _ _ (sym e) in
-    let digits : list_all (λ c. is_digit c 16) word ≡ true = grind (arith, nat_tests, w.0) in
-    let bound = digits_value-lt 16 word (all_digits 16 word digits) in
-    rw (← l, ← w.1) bound

@@ -4,4 +4,5 @@ pub mod AskingLaws
 pub mod Lines
 pub mod LineLaws
 pub mod Spelling
+pub mod SpellingLaws
 pub mod Places

@@ -19,9 +19,9 @@ colour_in word = do
   bits ← hexadecimal_in 6 word
   Ok (rgb_of bits)
 
--- a coordinate of a rectangle
-abbrev pub coordinate_in : List ℕ → Result ℤ Refusal
-coordinate_in word = number_in least_coordinate greatest_coordinate word
+-- an edge of a rectangle
+abbrev pub edge_in : List ℕ → Result ℤ Refusal
+edge_in word = number_in least_coordinate greatest_coordinate word
 
 -- and so is each edge of a rectangle
 abbrev pub IsCoordinate : ℤ → Type 0
@@ -36,10 +36,10 @@ pub record AreCoordinates (r : Rect) : Type 0 where
 -- the rectangle of four words from number i on
 abbrev pub rect_in : List (List ℕ) → ℕ → Result Rect Refusal
 rect_in words i = do
-  left ← coordinate_in (word_at words i)
-  top ← coordinate_in (word_at words (i + 1))
-  right ← coordinate_in (word_at words (i + 2))
-  bottom ← coordinate_in (word_at words (i + 3))
+  left ← edge_in (word_at words i)
+  top ← edge_in (word_at words (i + 1))
+  right ← edge_in (word_at words (i + 2))
+  bottom ← edge_in (word_at words (i + 3))
   Ok (record { left = left; top = top; right = right; bottom = bottom })
 
 -- the point of two words from number i on

@@ -2,7 +2,7 @@
 
 ghost use Rattle.std.specs.Prelude.{◌≡◌, ◌<◌, ◌≤ℤ◌, ◌^◌, IfOk, map};
 ghost use Rattle.script_words.specs.Bounds.{greatest_point};
-ghost use Rattle.script_words.specs.Places.{rgb_of, colour_in, coordinate_in, rect_in, point_in, is_well_ordered, IsCoordinate, AreCoordinates};
+ghost use Rattle.script_words.specs.Places.{rgb_of, colour_in, edge_in, rect_in, point_in, is_well_ordered, IsCoordinate, AreCoordinates};
 
 use crate::bounds::{GREATEST_COORDINATE, GREATEST_POINT, LEAST_COORDINATE};
 use crate::refusal::Refusal;
@@ -31,8 +31,9 @@ pub fn colour(word: &[u8]) -> Result<Rgb, Refusal>
     Ok(rgb(bits as u32))
 }
 
-fn coordinate(word: &[u8]) -> Result<i32, Refusal>
-    ensures value { result ≡ coordinate_in word.now }
+/// An edge of a rectangle.
+fn edge(word: &[u8]) -> Result<i32, Refusal>
+    ensures value { result ≡ edge_in word.now }
     ensures range { IfOk result IsCoordinate }
 {
     number(word, LEAST_COORDINATE, GREATEST_COORDINATE)
@@ -44,10 +45,10 @@ pub fn rect(words: &[&[u8]], i: usize) -> Result<Rect, Refusal>
     ensures value { result ≡ rect_in (map (λ w. w.now) words.now) i }
     ensures range { IfOk result AreCoordinates }
 {
-    let left = coordinate(word(words, i))?;
-    let top = coordinate(word(words, i + 1))?;
-    let right = coordinate(word(words, i + 2))?;
-    let bottom = coordinate(word(words, i + 3))?;
+    let left = edge(word(words, i))?;
+    let top = edge(word(words, i + 1))?;
+    let right = edge(word(words, i + 2))?;
+    let bottom = edge(word(words, i + 3))?;
     Ok(Rect {
         left,
         top,

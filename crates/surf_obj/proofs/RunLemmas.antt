@@ -1,4 +1,5 @@
-use Rattle.std.proofs.Common.{add-zero, ◌≡◌, ◌≢◌, ◌∙◌, ℕ, ◌+◌, ◌*◌, ◌/◌, ◌<◌, ◌≤◌, Bool, true, false, cond, ◌||◌, ◌&&◌, List, length, set, sym, ap, arith, ◌⊎◌, inl, inr, Option, Some, unwrap_or}
+use Rattle.std.proofs.Common.{add-zero, ◌≡◌, ◌≢◌, ◌∙◌, ℕ, ◌+◌, ◌*◌, ◌/◌, ◌<◌, ◌≤◌, Bool, true, false, cond, ◌||◌, ◌&&◌, List}
+use Rattle.std.proofs.Common.{length, set, sym, ap, arith, ◌⊎◌, inl, inr, Option, Some, unwrap_or}
 use Rattle.std.proofs.lemmas.Bool.{cases_lt, cases_eq}
 use Rattle.std.proofs.lemmas.Bool.Decides.{nat_tests}
 use Rattle.geom_base.specs.Points.{is_in, point_at}

@@ -1,6 +1,7 @@
 //! Where rows and pixels lie in bytes.
 
 ghost use Rattle.std.specs.Prelude.{◌≡◌, ◌≤◌, ◌<◌, ◌+◌, ◌-◌, ◌*◌, ◌%◌, ◌^◌, pos, ◌≤ℤ◌};
+ghost use Rattle.geom_base.specs.Points.{most_side};
 ghost use Rattle.pix_format.specs.Value.{bits_of};
 ghost use Rattle.surf_obj.specs.InnerRuns.{IsWholePart};
 ghost use Rattle.surf_obj.specs.Layout.{layout_from, row_bytes, row_start, rows_of, delta_of};
@@ -83,18 +84,10 @@ impl Layout {
 /// How many bytes the pixels of a row take.
 #[tactic(auto, using(crate::proofs::LayoutLemmas::bits_small))]
 pub fn row_bytes(format: Format, w: u32) -> u32
-    requires { w ≤ 4096 }
+    requires { w ≤ most_side }
     ensures { result ≡ row_bytes format w }
 {
     (w * format.bits() + 7) / 8
-}
-
-/// A coordinate that is not negative.
-pub fn coordinate(at: i32) -> u32
-    requires { pos 0 ≤ℤ at }
-    ensures { pos result ≡ at }
-{
-    at as u32
 }
 
 /// The part of a run of pixels that is whole bytes: the first of its pixels, and the one past the last.

@@ -1,6 +1,7 @@
 //! A surface on bits that were lent to be drawn on.
 
-ghost use Rattle.std.specs.Prelude.{◌≡◌, ◌≤◌, ◌<◌, ◌+◌, ◌-◌, ◌*◌, ◌/◌, ◌%◌, ◌^◌, ◌+ℤ◌, ℕ, pos, length, slice_set, slice_index, slice_range, EachIndex, All, IfOk, IfErr, unsigned_abs};
+ghost use Rattle.std.specs.Prelude.{◌≡◌, ◌≤◌, ◌<◌, ◌+◌, ◌-◌, ◌*◌, ◌/◌, ◌%◌, ◌^◌, ◌+ℤ◌, ℕ, pos, length, slice_set};
+ghost use Rattle.std.specs.Prelude.{slice_index, slice_range, EachIndex, All, IfOk, IfErr, unsigned_abs};
 ghost use Rattle.geom_base.specs.Points.{is_in, IsIn, LiesIn, whole, HasSides, point_at};
 ghost use Rattle.pix_format.specs.Value.{bits_of};
 ghost use Rattle.surf_obj.specs.Layout.{layout_from, row_start, rows_of, delta_of, Holds};
@@ -11,12 +12,12 @@ ghost use Rattle.geom_base.specs.Grid.{value_at, value_of_point, place_of};
 ghost use Rattle.geom_base.specs.Step.{redrawn};
 
 use crate::copies::move_bytes;
-use crate::layout::{Layout, coordinate, whole_part};
+use crate::layout::{Layout, whole_part};
 use crate::pixels::put_value;
 use crate::refusal::{SurfRefusal, refusal_of};
 use crate::runs::{Copied, Listed, Run, Solid};
 use crate::view::LentView;
-use geom_base::{Point, Size};
+use geom_base::{Point, Size, coordinate};
 use pix_format::Format;
 
 /// Bits that were lent to be drawn on as a surface.
@@ -270,7 +271,7 @@ impl LentSurf<'_> {
             ≡ unsigned_abs from.x * bits_of (format_of self.old) % 8 }
         ensures values { values_of self.new
             ≡ redrawn (size_of self.old) (values_of self.old) (λ p. is_in p (run_of at len)) (copied (view_size source.now) (view_values source.now) from at) }
-        ensures fit { (k : ℕ) → k < len
+        ensures fits { (k : ℕ) → k < len
             → value_of_point (view_size source.now) (view_values source.now) (record { x = from.x +ℤ pos k; y = from.y }) < 2 ^ bits_of (format_of self.old) }
         ensures only { OnlyPixels self.old self.new }
     {
@@ -291,7 +292,7 @@ impl LentSurf<'_> {
         requires whole { bits_of (format_of self.old) % 8 ≡ 0 }
         ensures values { values_of self.new
             ≡ redrawn (size_of self.old) (values_of self.old) (λ p. is_in p (run_of at len)) (copied (size_of self.old) (values_of self.old) from at) }
-        ensures fit { (k : ℕ) → k < len
+        ensures fits { (k : ℕ) → k < len
             → value_of_point (size_of self.old) (values_of self.old) (record { x = from.x +ℤ pos k; y = from.y }) < 2 ^ bits_of (format_of self.old) }
         ensures only { OnlyPixels self.old self.new }
     {
@@ -313,7 +314,7 @@ impl LentSurf<'_> {
         requires whole { bits_of (format_of self.old) % 8 ≡ 0 }
         ensures values { let change = copied (size_of self.old) (values_of self.old) (point_at from_x from_y) (point_at x y) in
             values_of self.new ≡ drawn (size_of self.old) (values_of self.old) x (x + len) y change }
-        ensures fit { (k : ℕ) → k < len → value_at (size_of self.old) (values_of self.old) (from_x + k) from_y < 2 ^ bits_of (format_of self.old) }
+        ensures fits { (k : ℕ) → k < len → value_at (size_of self.old) (values_of self.old) (from_x + k) from_y < 2 ^ bits_of (format_of self.old) }
         ensures only { OnlyPixels self.old self.new }
     {
         let at = self.place(x as usize, y);

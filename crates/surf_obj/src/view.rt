@@ -10,11 +10,11 @@ ghost use Rattle.surf_obj.specs.Refusals.{Refuses};
 ghost use Rattle.surf_obj.specs.InnerBytes.{ChangesOnly};
 
 use crate::copies::copy_bytes;
-use crate::layout::{Layout, coordinate, whole_part};
+use crate::layout::{Layout, whole_part};
 use crate::pixels::get_value;
 use crate::refusal::{SurfRefusal, refusal_of};
 use crate::rows::read_values;
-use geom_base::{Point, Size};
+use geom_base::{Point, Size, coordinate};
 use pix_format::Format;
 
 /// Bits that were lent to be read as a surface.

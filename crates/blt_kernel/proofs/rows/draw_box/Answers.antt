@@ -8,7 +8,7 @@ use Rattle.surf_obj.specs.LentLaws.{OnlyPixels-refl, OnlyPixels-trans, length-va
 use Rattle.blt_kernel.specs.InnerDrawing.{drawn}
 use Rattle.blt_kernel.specs.InnerOrder.{rows_done}
 use Rattle.blt_kernel.proofs.OrderLemmas.{rows_none, rows_more, rows_ahead, rows_all, part_within}
-use Rattle.blt_kernel.proofs.PartLemmas.{CanDraw-part, CanDraw-kept, drawn_more}
+use Rattle.blt_kernel.proofs.PartLemmas.{HasOperands-part, HasOperands-kept, drawn_more}
 use Rattle.blt_kernel.proofs.rows.draw_box.Goals as goal
 
 pub loop-i-init : goal.loop-i-init
@@ -24,10 +24,10 @@ pub draw_row-requires-clause-able : goal.draw_row-requires-clause-able
 draw_row-requires-clause-able c =
     let fits : c.args.edges.now.top + c.loop-i.i + 1 ≤ c.args.edges.now.bottom = omega arith in
     let part = part_within c.args.forward c.args.edges.now.top c.args.edges.now.bottom c.loop-i.i 1 c.part_start-y.result fits c.part_start-y.ensures in
-    CanDraw-part c.args.drawing.now (size_of c.loop-i.dst)
+    HasOperands-part c.args.drawing.now (size_of c.loop-i.dst)
     (format_of c.loop-i.dst) c.args.edges.now.left c.args.edges.now.top c.args.edges.now.right c.args.edges.now.bottom c.args.edges.now.left
     c.part_start-y.result c.args.edges.now.right (c.part_start-y.result + 1)
-    (CanDraw-kept c.args.drawing.now c.args.dst.now c.loop-i.dst c.args.edges.now.left c.args.edges.now.top c.args.edges.now.right c.args.edges.now.bottom
+    (HasOperands-kept c.args.drawing.now c.args.dst.now c.loop-i.dst c.args.edges.now.left c.args.edges.now.top c.args.edges.now.right c.args.edges.now.bottom
     c.loop-i.invariant.only c.requires.able) (omega arith) part.0 (omega arith) part.1
 
 pub loop-i-preserved : goal.loop-i-preserved
@@ -40,7 +40,7 @@ loop-i-preserved c =
           (rows_done c.args.forward c.args.edges.now.left c.args.edges.now.top c.args.edges.now.right c.args.edges.now.bottom (c.loop-i.i + 1))
           c.args.edges.now.left c.part_start-y.result c.args.edges.now.right
           (c.part_start-y.result + 1) c.loop-i.invariant.only c.loop-i.invariant.values c.draw_row.ensures
-          (CanDraw-part c.args.drawing.now (size_of c.args.dst.now)
+          (HasOperands-part c.args.drawing.now (size_of c.args.dst.now)
           (format_of c.args.dst.now) c.args.edges.now.left c.args.edges.now.top c.args.edges.now.right c.args.edges.now.bottom c.args.edges.now.left
           c.part_start-y.result c.args.edges.now.right (c.part_start-y.result + 1) c.requires.able (omega arith) part.0 (omega arith) part.1)
           c.requires.order

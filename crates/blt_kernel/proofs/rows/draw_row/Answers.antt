@@ -18,6 +18,6 @@ returns-in-Copy c =
     let way = rw c.in-Copy.is at c.requires.way in
     record {
       values = c.copy_row.ensures.values
-          ∙ given_drawn c.args.drawing.now c.args.dst.now c.in-Copy.source c.args.left c.args.right c.args.y _ end way.0 way.1.values c.copy_row.ensures.fit;
+          ∙ given_drawn c.args.drawing.now c.args.dst.now c.in-Copy.source c.args.left c.args.right c.args.y _ end way.0 way.1.values c.copy_row.ensures.fits;
       only = c.copy_row.ensures.only;
     }

@@ -8,7 +8,7 @@ use Rattle.surf_obj.specs.LentLaws.{OnlyPixels-refl, OnlyPixels-trans, length-va
 use Rattle.blt_kernel.specs.InnerDrawing.{drawn}
 use Rattle.blt_kernel.specs.InnerOrder.{columns_done}
 use Rattle.blt_kernel.proofs.OrderLemmas.{columns_none, columns_more, columns_ahead, columns_all, part_within}
-use Rattle.blt_kernel.proofs.PartLemmas.{CanDraw-part, CanDraw-kept, drawn_more}
+use Rattle.blt_kernel.proofs.PartLemmas.{HasOperands-part, HasOperands-kept, drawn_more}
 use Rattle.blt_kernel.proofs.rows.draw_runs.Goals as goal
 
 pub loop-done-init : goal.loop-done-init
@@ -24,9 +24,9 @@ pub draw_run-requires-clause-able : goal.draw_run-requires-clause-able
 draw_run-requires-clause-able c =
     let fits : c.args.left + c.loop-done.done + c.min-len.result ≤ c.args.right = omega arith in
     let part = part_within c.args.forward c.args.left c.args.right c.loop-done.done c.min-len.result c.part_start-x.result fits c.part_start-x.ensures in
-    CanDraw-part c.args.drawing.now (size_of c.loop-done.dst) (format_of c.loop-done.dst) c.args.left c.args.y c.args.right
+    HasOperands-part c.args.drawing.now (size_of c.loop-done.dst) (format_of c.loop-done.dst) c.args.left c.args.y c.args.right
     (c.args.y + 1) c.part_start-x.result c.args.y (c.part_start-x.result + c.min-len.result) (c.args.y + 1)
-    (CanDraw-kept c.args.drawing.now c.args.dst.now c.loop-done.dst c.args.left c.args.y c.args.right
+    (HasOperands-kept c.args.drawing.now c.args.dst.now c.loop-done.dst c.args.left c.args.y c.args.right
     (c.args.y + 1) c.loop-done.invariant.only c.requires.able) part.0 (omega arith) part.1 (omega arith)
 
 pub loop-done-preserved : goal.loop-done-preserved
@@ -40,7 +40,7 @@ loop-done-preserved c =
           (columns_done c.args.forward c.args.left c.args.right c.args.y (c.loop-done.done + c.min-len.result))
           c.part_start-x.result c.args.y (c.part_start-x.result + c.min-len.result)
           (c.args.y + 1) c.loop-done.invariant.only c.loop-done.invariant.values c.draw_run.ensures
-          (CanDraw-part c.args.drawing.now (size_of c.args.dst.now) (format_of c.args.dst.now) c.args.left c.args.y c.args.right
+          (HasOperands-part c.args.drawing.now (size_of c.args.dst.now) (format_of c.args.dst.now) c.args.left c.args.y c.args.right
           (c.args.y + 1) c.part_start-x.result c.args.y (c.part_start-x.result + c.min-len.result) (c.args.y + 1) c.requires.able part.0
           (omega arith) part.1 (omega arith))
           c.requires.order

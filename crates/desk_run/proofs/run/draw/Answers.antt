@@ -1,6 +1,6 @@
 use Rattle.std.proofs.Common.{[], ◌∷◌, ap, ◌∙◌}
 use Rattle.script_orders.specs.declared.named.Named.{Named}
-use Rattle.desk_run.specs.Reports.{memory}
+use Rattle.desk_span.specs.Reports.{memory}
 use Rattle.desk_run.specs.Texts.{report_text}
 use Rattle.desk_run.proofs.CarryLemmas.{reported, wanting}
 use Rattle.desk_run.proofs.run.draw.Goals as goal

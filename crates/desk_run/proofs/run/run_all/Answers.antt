@@ -2,8 +2,14 @@ use Rattle.std.proofs.Common.{◌∙◌, sym, refl, false, true, [], ◌∷◌}
 use Rattle.std.proofs.Math.Bool.{and-true, and-false}
 use Rattle.desk_io.specs.SinkLaws.{puts_as}
 use Rattle.desk_run.proofs.HistoryLemmas.{more, so_far_more, stopped_in, finished, finished_wanting, unfinished}
+use Rattle.desk_span.specs.Desk.{live_of}
+use Rattle.desk_run.proofs.LiveLemmas.{can_rest, run_next}
 use Rattle.desk_run.proofs.run.run_all.Goals.{in-Whole, in-Wanting}
 use Rattle.desk_run.proofs.run.run_all.Goals as goal
+
+pub carry_out-requires-clause-can : goal.carry_out-requires-clause-can
+carry_out-requires-clause-can g c =
+    (run_next (live_of c.loop-i.desk) c.args.commands.now c.loop-i.i _ c.loop-i.invariant.can c.loop-i-test.true c.index-commands-i.is).0
 
 pub returns-in-Broken : goal.returns-in-Broken
 returns-in-Broken g c =
@@ -18,7 +24,12 @@ loop-i-preserved g c =
     let (h, so) = c.loop-i.invariant.so_far in
     let command = c.index-commands-i.result in
     let whole = c.match-carry_out.whole in
+    let next = (run_next (live_of c.loop-i.desk) c.args.commands.now c.loop-i.i command c.loop-i.invariant.can c.loop-i-test.true c.index-commands-i.is).1 in
     record {
+      can = elim c.match-carry_out.branch [
+        | in-Whole w ↦ can_rest command [] _ _ _ w.in-Whole.ensures.shows next
+        | in-Wanting w ↦ let (t, one) = w.in-Wanting.ensures in can_rest command (t ∷ []) _ _ _ one.shows next
+      ];
       values = c.carry_out.auto.values ∙ c.loop-i.invariant.values;
       line = c.carry_out.auto.line ∙ c.loop-i.invariant.line;
       so_far = elim c.match-carry_out.branch [

@@ -1,5 +1,9 @@
 use Rattle.std.proofs.Common.{◌≡◌, length, rules}
-use Rattle.script_read.proofs.ScriptLemmas.{answers_refused, read_more, lines_end, few_more, can_more, made_more}
+use Rattle.script_read.proofs.ScriptLemmas.{answers_refused, read_more, lines_end, few_more, made_more}
+use Rattle.script_read.proofs.KnowsLemmas.{knows_first}
+use Rattle.script_read.proofs.MeaningLemmas.{read_lines_can_run}
+use Rattle.script_orders.specs.Live.{first_live}
+use Rattle.script_read.specs.State.{first_reader_state}
 use Rattle.script_read.proofs.reading.read_script.Goals as goal
 
 pub returns-in-Err-text_line-clause-value : goal.returns-in-Err-text_line-clause-value
@@ -15,7 +19,6 @@ loop-more-preserved c =
     record {
       read = rw c.in-Ok-keep.ensures (read_more _ _ _ _ _ so_far (rw count at c.in-Ok-text_line.ensures.value));
       few = rw c.in-Ok-keep.ensures (few_more _ _ c.loop-more.invariant.few (rw count at c.in-Ok-text_line.ensures.few));
-      can = rw c.in-Ok-keep.ensures (can_more _ _ c.loop-more.invariant.can c.in-Ok-text_line.ensures.can);
       made = rw c.in-Ok-keep.ensures (made_more _ _ _ _ c.loop-more.invariant.made c.in-Ok-text_line.ensures.made);
     }
 
@@ -23,3 +26,9 @@ pub returns-clause-value : goal.returns-clause-value
 returns-clause-value c =
     let so_far = rw c.in_default.is at c.loop-more.invariant.read in
     rw c.of.ensures (lines_end _ _ _ so_far.reads)
+
+pub returns-clause-can : goal.returns-clause-can
+returns-clause-can c =
+    let so_far = rw c.in_default.is at c.loop-more.invariant.read in
+    let read = lines_end _ _ _ so_far.reads in
+    rw c.of.ensures (read_lines_can_run _ _ first_reader_state first_live _ _ knows_first read)

@@ -1,8 +1,6 @@
 use Rattle.std.proofs.Common.{◌+◌, ◌≤◌, suc, length}
-use Rattle.std.specs.Prelude.{All}
 use Rattle.std.specs.Option.{option_copied, option_map_or}
 use Rattle.script_words.specs.Lines.{lines_of, lines_after}
-use Rattle.script_orders.specs.Asked.{CanDo}
 use Rattle.script_orders.specs.Limits.{most_commands}
 use Rattle.script_read.specs.InnerReading.{state_of}
 use Rattle.script_read.specs.State.{first_reader_state}
@@ -16,7 +14,6 @@ invariant-loop-more l = record {
       (length (lines_after (option_copied l.more))) l.commands.items
       (read_lines l.number (length l.commands.items) (state_of l.reader) (lines_after (option_copied l.more)));
   few : length l.commands.items ≤ most_commands;
-  can : All CanDo l.commands.items;
   made : length l.reader.made.items ≤ length l.commands.items;
 }
 

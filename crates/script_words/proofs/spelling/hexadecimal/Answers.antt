@@ -1,5 +1,5 @@
 use Rattle.std.proofs.Common.{arith}
-use Rattle.script_words.proofs.DigitLemmas.{below_power}
+use Rattle.script_words.specs.SpellingLaws.{below_power}
 use Rattle.script_words.proofs.spelling.hexadecimal.Goals as goal
 
 pub returns-in-Some-clause-small : goal.returns-in-Some-clause-small

@@ -15,4 +15,4 @@ returns c = row_gives c.args.self.now c.args.dst.now c.args.x c.args.y _ c.code_
 
 pub returns-then-code : goal.returns-then-code
 returns-then-code c = copy_gives c.args.self.now c.args.dst.now c.args.x c.args.y c.args.source.now _ c.requires.mask (search rules) c.requires.source
-    c.read_run.ensures.values c.read_run.ensures.fit
+    c.read_run.ensures.values c.read_run.ensures.fits

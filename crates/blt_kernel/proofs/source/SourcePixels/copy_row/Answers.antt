@@ -22,19 +22,19 @@ returns-in-None-clause-values c =
     (values_of c.args.dst.now) c.args.x c.args.y c.args.len c.column.result c.row.result
     (length-values_of c.args.dst.now) c.column.ensures.value c.row.ensures.value)
 
-pub returns-in-Some-clause-fit : goal.returns-in-Some-clause-fit
-returns-in-Some-clause-fit c k h =
+pub returns-in-Some-clause-fits : goal.returns-in-Some-clause-fits
+returns-in-Some-clause-fits c k h =
     rw c.in-Some.is (subst (λ (v : ℕ). v < 2 ^ bits_of (format_of c.args.dst.now))
     (value_along c.args.self.now.shift (view_size c.in-Some.view.now)
     (view_values c.in-Some.view.now) c.args.x c.args.y k c.column.result c.row.result c.column.ensures.value c.row.ensures.value)
-    (rw c.at-from.ensures at (c.copy_row.ensures.fit k h)))
+    (rw c.at-from.ensures at (c.copy_row.ensures.fits k h)))
 
-pub returns-in-None-clause-fit : goal.returns-in-None-clause-fit
-returns-in-None-clause-fit c k h =
+pub returns-in-None-clause-fits : goal.returns-in-None-clause-fits
+returns-in-None-clause-fits c k h =
     rw c.in-None.is (subst (λ (v : ℕ). v < 2 ^ bits_of (format_of c.args.dst.now))
     (value_along c.args.self.now.shift (size_of c.args.dst.now)
     (values_of c.args.dst.now) c.args.x c.args.y k c.column.result c.row.result c.column.ensures.value c.row.ensures.value)
-    (rw c.at-from.ensures at (c.move_row.ensures.fit k h)))
+    (rw c.at-from.ensures at (c.move_row.ensures.fits k h)))
 
 pub copy_row-requires-clause-source : goal.copy_row-requires-clause-source
 copy_row-requires-clause-source c =

@@ -8,5 +8,5 @@ use Rattle.brush_obj.proofs.hatch_values.HatchValues.fill_part.Given as goal
 abbrev pub invariant-loop-k : goal.invariant-loop-k
 invariant-loop-k l = record {
   values : (j : ℕ) → j < l.k → get_or l.out j 0 ≡ hatch_value l.self ((l.x + j) % 8) l.y;
-  fit : (format : Format) → HatchFits format l.self → (j : ℕ) → j < l.k → get_or l.out j 0 < 2 ^ bits_of format;
+  fits : (format : Format) → HatchFits format l.self → (j : ℕ) → j < l.k → get_or l.out j 0 < 2 ^ bits_of format;
 }

@@ -12,8 +12,8 @@ returns-clause-values c = λ k inside.
     taken.0 ∙ c.fill_part.ensures.values (k % 8) taken.1
     ∙ hatch_after c.args.self.now c.args.origin c.args.at c.wrapped-x.result c.wrapped-y.result k (search rules) (search rules)
 
-pub returns-clause-fit : goal.returns-clause-fit
-returns-clause-fit c = λ format fits.
-    All-taken (λ (v : ℕ). v < 2 ^ bits_of format) c.fill_part.new.out c.repeat.new.row (λ k. k % 8) (c.fill_part.ensures.fit format fits)
+pub returns-clause-fits : goal.returns-clause-fits
+returns-clause-fits c = λ format fits.
+    All-taken (λ (v : ℕ). v < 2 ^ bits_of format) c.fill_part.new.out c.repeat.new.row (λ k. k % 8) (c.fill_part.ensures.fits format fits)
     (repeated_taken c.fill_part.new.out _ c.repeat.new.row 8 (length c.args.out.now) (omega arith) (omega arith)
     (omega (arith, length-take {A = ℕ})) c.repeat.ensures)

@@ -14,8 +14,8 @@ returns-clause-values c = λ k inside.
     taken.0 ∙ value ∙ realised_after t.values.now t.size c.args.origin c.args.at c.wrapped-x.result c.wrapped-y.result k t.len t.sides.0
     c.wrapped-y.ensures.below (search rules) (search rules)
 
-pub returns-clause-fit : goal.returns-clause-fit
-returns-clause-fit c = λ format fit.
+pub returns-clause-fits : goal.returns-clause-fits
+returns-clause-fits c = λ format fit.
     let t = c.args.self.now in
     All-taken (λ (v : ℕ). v < 2 ^ bits_of format) c.copy_round.new.out c.repeat.new.row (λ k. k % t.size.w)
     (All-taken (λ (v : ℕ). v < 2 ^ bits_of format) t.values.now c.copy_round.new.out _ fit

@@ -54,8 +54,8 @@ returns-clause-only c =
           (rw (no_less c.args.len, c.bits.ensures) refl) c.move_bytes.ensures.bytes);
     }
 
-pub returns-clause-fit : goal.returns-clause-fit
-returns-clause-fit c k lt =
+pub returns-clause-fits : goal.returns-clause-fits
+returns-clause-fits c k lt =
     let old = c.args.self.now in
     values_in-fit old.layout old.bits.now (c.args.from_x + k) c.args.from_y
     (omega (arith, lt, c.requires.source_columns)) c.requires.source_row c.move_bytes.ensures.items

@@ -1,0 +1,75 @@
+-- Of private calls: a desk as it stands beside one of its surfaces that is drawn on.
+use Rattle.std.specs.Prelude.{◌≡◌, ◌≢◌, ◌<◌, ◌^◌, ℕ, All, nat_eq, Bool, true, false, List, Option, Some, None, map, slice_index_or}
+use Rattle.std.specs.Option.{option_copied}
+use Rattle.pix_format.specs.declared.format.Format.{Format}
+use Rattle.pix_format.specs.declared.rgb.Rgb.{Rgb}
+use Rattle.pix_format.specs.Value.{bits_of, black}
+use Rattle.surf_obj.specs.Surface.{Surface}
+use Rattle.brush_obj.specs.Slots.{Brush}
+use Rattle.brush_obj.specs.declared.face.BrushFace.{BrushFace}
+use Rattle.script_orders.specs.Asked.{MaskIsOther, RowIsCopied}
+use Rattle.script_orders.specs.declared.desk_command.BrushUse.{BrushUse}
+use Rattle.script_orders.specs.declared.desk_command.BrushUse.TheVariants as uses
+use Rattle.script_orders.specs.declared.desk_command.DeskCommand.{DeskCommand}
+use Rattle.script_orders.specs.declared.desk_command.Feed.{Feed}
+use Rattle.script_orders.specs.declared.desk_command.Feed.TheVariants as feeds
+use Rattle.script_orders.specs.declared.desk_command.Spot.{Spot}
+use Rattle.script_orders.specs.declared.desk_command.Spot.TheVariants as spots
+use Rattle.desk_span.specs.declared.others.Others.{Others}
+use Rattle.desk_span.specs.Desk.{State, bitmap_at}
+
+-- the screen is beside a bitmap that is drawn on; or it is drawn on itself
+abbrev pub ScreenBeside : State → Spot → Surface → Option Surface → Type 0
+ScreenBeside s spots.Desk t screen = (screen ≡ None) × (s.screen ≡ t)
+ScreenBeside s (spots.Bitmap n) t screen = screen ≡ Some s.screen
+
+-- what is drawn on isn't this bitmap
+abbrev pub IsOther : Spot → ℕ → Type 0
+IsOther spots.Desk m = Unit {0}
+IsOther (spots.Bitmap n) m = m ≢ n
+
+-- the bitmap that is drawn on is this surface
+abbrev pub IsAt : State → Spot → Surface → Type 0
+IsAt s spots.Desk t = Unit {0}
+IsAt s (spots.Bitmap n) t = bitmap_at s n ≡ Some t
+
+abbrev pub faces_of : List Brush → List BrushFace
+faces_of brushes = map (λ (b : Brush). b.face) brushes
+
+-- the desk's surfaces and brushes but for the surface that is drawn on
+pub record IsBeside (s : State) (spot : Spot) (t : Surface) (o : Others) : Type 0 where
+  pub screen : ScreenBeside s spot t (option_copied o.screen)
+  pub bitmaps : (m : ℕ) → IsOther spot m → slice_index_or o.bitmaps.now m None ≡ bitmap_at s m
+  pub own : IsAt s spot t
+  pub brushes : faces_of o.brushes.now ≡ s.brushes
+
+-- each value of a row fits a format
+abbrev pub RowFits : Format → Feed → Type 0
+RowFits format (feeds.Row values) = All (λ v. v < 2 ^ bits_of format) values
+RowFits format feed = Unit {0}
+
+-- a brush is one of so many that were made, or none of them
+abbrev pub WasMade : ℕ → BrushUse → Type 0
+WasMade n (uses.Made number) = number < n
+WasMade n with = Unit {0}
+
+-- a drawing can be done on a surface: no bitmap is its own mask, and a row of values that fit the surface's format is copied
+pub record DrawsOn (t : Surface) (c : DeskCommand) : Type 0 where
+  pub other : MaskIsOther c.target c.mask
+  pub row : RowIsCopied c.source c.call
+  pub fits : RowFits t.format c.source
+
+abbrev pub IsNoRow : Feed → Type 0
+IsNoRow (feeds.Row values) = ⊥
+IsNoRow feed = Unit {0}
+
+-- the colour of a brush that isn't one that was made
+abbrev pub plain_colour : BrushUse → Rgb
+plain_colour (uses.Colour colour) = colour
+plain_colour with = black
+
+-- what is drawn on is the drawing's source
+abbrev pub is_own : Spot → Feed → Bool
+is_own spots.Desk feeds.Desk = true
+is_own (spots.Bitmap m) (feeds.Bitmap n) = nat_eq m n
+is_own spot feed = false

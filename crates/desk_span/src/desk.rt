@@ -1,0 +1,190 @@
+//! The desk.
+
+ghost use Rattle.std.specs.Prelude.{◌≡◌, [], IfOk, OnOk, OnErr, Some};
+ghost use Rattle.script_orders.specs.Asked.{CanCreate, IsSurfaceSize};
+ghost use Rattle.script_orders.specs.Live.{Any, CanDraw, FaceIsThere, IsThere, NamedIsThere};
+ghost use Rattle.script_orders.specs.declared.script_command.ScriptCommand.TheVariants as asked;
+ghost use Rattle.desk_span.specs.Desk.{bitmap_at, carried, face_made, first_state, live_of, surface_at};
+ghost use Rattle.desk_span.specs.Meeting.{Meets};
+ghost use Rattle.script_orders.specs.declared.desk_command.Spot.TheVariants as spots;
+
+use crate::canvas::Canvas;
+use crate::draw::draw_beside;
+use crate::others::Others;
+use brush_obj::BrushObj;
+use geom_base::Size;
+use pix_format::{ColourTable, Format, Rgb};
+use script_orders::{BrushOrder, CreateOrder, DeskCommand, FaceOrder, Named, Spot};
+use std::alloc::{AllocError, Global};
+use std::marker::Model;
+
+/// The screen, and the bitmaps and brushes in the order in which they were made.
+#[derive(Drop)]
+pub struct Desk {
+    screen: Canvas,
+    /// None where a bitmap is gone.
+    bitmaps: Vec<Option<Canvas>>,
+    brushes: Vec<BrushObj>,
+}
+
+impl Model for Desk {
+    ghost use Rattle.desk_span.specs.InnerBeside.{faces_of};
+    ghost use Rattle.desk_span.specs.Desk.{State};
+
+    ghost Value = { State };
+
+    ghost view = { λ d. record { screen = d.screen; bitmaps = d.bitmaps.items; brushes = faces_of d.brushes.items } };
+}
+
+impl Desk {
+    /// A desk whose screen has a size, with no bitmap and no brush.
+    pub fn new(alloc: Global, size: Size) -> Result<Desk, AllocError>
+        requires { IsSurfaceSize size }
+        ensures { IfOk result (λ d. d ≡ first_state size) }
+    {
+        let table = ColourTable::standard(alloc, Format::B8)?;
+        let screen = Canvas::new(alloc, size, Format::B8, table)?;
+        Ok(Desk {
+            screen,
+            bitmaps: Vec::new(alloc),
+            brushes: Vec::new(alloc),
+        })
+    }
+
+    /// The surface of a name.
+    pub fn surface(&self, name: Named) -> &Canvas
+        requires { NamedIsThere (live_of self.now) name }
+        ensures { surface_at self.now name ≡ Some result.now }
+    {
+        match name {
+            Named::Screen(_) => &self.screen,
+            Named::Bitmap(number) => self.bitmap(number),
+        }
+    }
+
+    /// The bitmap of a number.
+    fn bitmap(&self, number: u32) -> &Canvas
+        requires { IsThere (live_of self.now) number Any }
+        ensures { bitmap_at self.now number ≡ Some result.now }
+    {
+        match self.bitmaps.get(number as usize) {
+            Some(Some(bitmap)) => bitmap,
+            _ => unreachable!(),
+        }
+    }
+
+    /// Makes a bitmap.
+    ///
+    /// # Errors
+    ///
+    /// `AllocError` for want of memory; the desk is unchanged then.
+    pub fn create(&mut self, alloc: Global, order: &CreateOrder) -> Result<(), AllocError>
+        requires { CanCreate order.now }
+        ensures ok { OnOk result (self.new ≡ carried (asked.Create order.now) [] self.old) }
+        ensures err { OnErr result (self.new ≡ self.old) }
+    {
+        let table = ColourTable::of(alloc, order.table.colours())?;
+        let bitmap = Canvas::new(alloc, order.size, order.format, table)?;
+        match self.bitmaps.push(Some(bitmap)) {
+            Ok(()) => Ok(()),
+            Err(_) => Err(AllocError),
+        }
+    }
+
+    /// Takes a bitmap away.
+    pub fn delete(&mut self, number: u32)
+        requires { IsThere (live_of self.old) number Any }
+        ensures { self.new ≡ carried (asked.Delete number) [] self.old }
+    {
+        self.bitmaps[number as usize] = None;
+    }
+
+    /// Makes a brush.
+    ///
+    /// # Errors
+    ///
+    /// `AllocError` for want of memory; the desk is unchanged then.
+    pub fn make_brush(&mut self, alloc: Global, order: &BrushOrder) -> Result<(), AllocError>
+        requires { FaceIsThere (live_of self.old) order.now.face }
+        ensures ok { OnOk result (self.new ≡ carried (asked.Brush order.now) [] self.old) }
+        ensures err { OnErr result (self.new ≡ self.old) }
+    {
+        let brush = self.brush(alloc, order.face, order.back)?;
+        match self.brushes.push(brush) {
+            Ok(()) => Ok(()),
+            Err(_) => Err(AllocError),
+        }
+    }
+
+    /// The brush that is made of this, with the background colour in force.
+    fn brush(&self, alloc: Global, face: FaceOrder, back: Rgb) -> Result<BrushObj, AllocError>
+        requires { FaceIsThere (live_of self.now) face }
+        ensures { IfOk result (λ b. b.face ≡ face_made self.now back face) }
+    {
+        match face {
+            FaceOrder::Solid(colour) => Ok(BrushObj::solid(alloc, colour)),
+            FaceOrder::Hatch(kind, fore, other) => Ok(BrushObj::hatch(alloc, kind, fore, other)),
+            FaceOrder::Pattern { bitmap } => self.bitmap(bitmap).pattern(alloc, back),
+        }
+    }
+
+    /// Carries out a drawing.
+    ///
+    /// # Errors
+    ///
+    /// `AllocError` for want of memory, where the drawing meets what it draws on; the desk is unchanged then.
+    pub fn draw(&mut self, alloc: Global, command: &DeskCommand) -> Result<(), AllocError>
+        requires { CanDraw (live_of self.old) command.now }
+        ensures ok { OnOk result (self.new ≡ carried (asked.Draw command.now) [] self.old) }
+        ensures err { OnErr result (self.new ≡ self.old) }
+        ensures meets { OnErr result (Meets self.old command.now) }
+    {
+        match command.target {
+            Spot::Desk => self.draw_on_screen(alloc, command),
+            Spot::Bitmap(number) => self.draw_on_bitmap(alloc, number, command),
+        }
+    }
+
+    fn draw_on_screen(&mut self, alloc: Global, command: &DeskCommand) -> Result<(), AllocError>
+        requires can { CanDraw (live_of self.old) command.now }
+        requires target { command.now.target ≡ spots.Desk }
+        ensures ok { OnOk result (self.new ≡ carried (asked.Draw command.now) [] self.old) }
+        ensures err { OnErr result (self.new ≡ self.old) }
+        ensures meets { OnErr result (Meets self.old command.now) }
+    {
+        let others = Others {
+            screen: None,
+            bitmaps: self.bitmaps.as_slice(),
+            brushes: self.brushes.as_slice(),
+        };
+        draw_beside(alloc, &mut self.screen, others, command)
+    }
+
+    /// The bitmap is out of its place while it is drawn on.
+    fn draw_on_bitmap(
+        &mut self,
+        alloc: Global,
+        number: u32,
+        command: &DeskCommand,
+    ) -> Result<(), AllocError>
+        requires can { CanDraw (live_of self.old) command.now }
+        requires target { command.now.target ≡ spots.Bitmap number }
+        ensures ok { OnOk result (self.new ≡ carried (asked.Draw command.now) [] self.old) }
+        ensures err { OnErr result (self.new ≡ self.old) }
+        ensures meets { OnErr result (Meets self.old command.now) }
+    {
+        let place = number as usize;
+        let mut target = match self.bitmaps[place].take() {
+            Some(target) => target,
+            None => unreachable!(),
+        };
+        let others = Others {
+            screen: Some(&self.screen),
+            bitmaps: self.bitmaps.as_slice(),
+            brushes: self.brushes.as_slice(),
+        };
+        let drawn = draw_beside(alloc, &mut target, others, command);
+        self.bitmaps[place] = Some(target);
+        drawn
+    }
+}

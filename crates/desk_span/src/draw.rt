@@ -1,0 +1,159 @@
+//! A drawing on one surface, beside the rest of the desk.
+
+ghost use Rattle.std.specs.Prelude.{◌≡◌, ◌<◌, ◌≤◌, ◌*◌, ◌^◌, ◌↔◌, IsTrue, All, length, OnOk, OnErr};
+ghost use Rattle.std.specs.Option.{option_copied};
+ghost use Rattle.geom_base.specs.declared.point.Point.{Point};
+ghost use Rattle.geom_base.specs.Points.{HasPoints, IsIn, is_in_some, LiesIn, whole, most_side};
+ghost use Rattle.pix_format.specs.Value.{bits_of};
+ghost use Rattle.pix_format.specs.declared.rgb.Rgb.{Rgb};
+ghost use Rattle.surf_obj.specs.Surface.{changed};
+ghost use Rattle.brush_obj.specs.Calls.{new_of_copy};
+ghost use Rattle.brush_obj.specs.declared.draw_call.DrawCall.TheVariants.{Copy};
+ghost use Rattle.script_orders.specs.Asked.{MaskIsOther, RowIsCopied};
+ghost use Rattle.script_orders.specs.declared.desk_command.Feed.TheVariants.{Row};
+ghost use Rattle.desk_span.specs.Desk.{State, drawn, new_of};
+ghost use Rattle.desk_span.specs.Meeting.{Reaches};
+ghost use Rattle.desk_span.specs.InnerBeside.{DrawsOn, IsBeside, IsNoRow, WasMade};
+ghost use Rattle.desk_span.specs.InnerDrawing.{holding};
+ghost use Rattle.desk_span.specs.InnerRows.{row_operands};
+
+use crate::canvas::Canvas;
+use crate::frame::{frame_of, meets};
+use crate::inputs::CanvasInputs;
+use crate::others::{BLACK, Others, is_own, plain_colour};
+use crate::row::{ORIGIN, columns_between};
+use brush_obj::{BltCall, BrushObj, CopyCall, DrawCall};
+use clip_obj::ClipObj;
+use geom_base::Rect;
+use region::Region;
+use script_orders::{DeskCommand, Feed, NamedRegion};
+use std::alloc::{AllocError, Global};
+
+/// The region of a clip, where there is one.
+fn region_of(clip: &Option<NamedRegion>) -> Option<&Region>
+    ensures { option_copied result ≡ clip.now }
+{
+    match clip {
+        Some(named) => Some(named.region()),
+        None => None,
+    }
+}
+
+/// Carries out a drawing on a surface, beside the rest of the desk.
+///
+/// # Errors
+///
+/// `AllocError` for want of memory, where the call reaches a point of the surface in the clip; the surface is unchanged then.
+pub fn draw_beside(
+    alloc: Global,
+    target: &mut Canvas,
+    others: Others<'_>,
+    command: &DeskCommand,
+) -> Result<(), AllocError>
+    requires can { DrawsOn target.old command.now }
+    requires made { WasMade (length others.brushes.now) command.now.brush }
+    ensures ok { OnOk result ((s : State) → IsBeside s command.now.target target.old others.entry → target.new ≡ drawn s command.now None target.old) }
+    ensures err { OnErr result (target.new ≡ target.old) }
+    ensures meets { OnErr result (Reaches command.now.clip command.now.call target.old.size) }
+{
+    let region = region_of(&command.clip);
+    let frame = frame_of(command.call.rect(), target.size());
+    if !meets(region, &frame) {
+        return Ok(());
+    }
+    let mut clip = ClipObj::build(alloc, region, frame)?;
+    if let Feed::Row(values) = &command.source {
+        return match &command.call {
+            DrawCall::Copy(call) => {
+                draw_row(alloc, target, call, values.items(), &frame, &mut clip)
+            }
+            _ => unreachable!(),
+        };
+    }
+    draw_call(alloc, target, others, command, &mut clip)
+}
+
+/// Draws a call in the rectangles of a clip that lies in the surface.
+fn draw_call(
+    alloc: Global,
+    target: &mut Canvas,
+    others: Others<'_>,
+    command: &DeskCommand,
+    clip: &mut ClipObj,
+) -> Result<(), AllocError>
+    requires other { MaskIsOther command.now.target command.now.mask }
+    requires made { WasMade (length others.brushes.now) command.now.brush }
+    requires source { IsNoRow command.now.source }
+    requires inside { All (λ r. LiesIn r target.old.size) clip.old.rects }
+    ensures ok { OnOk result ((s : State) → IsBeside s command.now.target target.old others.entry →
+        target.new ≡ changed (new_of s command.now target.old) (λ p. is_in_some p clip.old.rects) target.old) }
+    ensures err { OnErr result (target.new ≡ target.old) }
+{
+    let plain = BrushObj::solid(alloc, plain_colour(command.brush));
+    let inputs = CanvasInputs {
+        source: others.source(command.target, &command.source),
+        mask: others.mask(command.mask),
+        brush: others.brush(command.brush, &plain),
+        back: command.back,
+    };
+    let call = holding(is_own(command.target, &command.source), &command.call);
+    target.draw(alloc, &call, &inputs, clip)
+}
+
+/// The call, which holds its target where that is its own source.
+fn holding(own: bool, call: &DrawCall) -> DrawCall
+    ensures { result ≡ holding own call.now }
+{
+    match call {
+        DrawCall::Blt(call) => DrawCall::Blt(BltCall {
+            held: own.then_some(call.target),
+            ..*call
+        }),
+        DrawCall::Copy(call) => DrawCall::Copy(CopyCall {
+            held: own.then_some(call.target),
+            ..*call
+        }),
+        DrawCall::Paint(call) => DrawCall::Paint(*call),
+    }
+}
+
+/// Copies a row of values in the surface's own format to the rectangle of a call, whose frame on the surface has points, in the
+/// rectangles of a clip within that frame; no colour counts.
+fn draw_row(
+    alloc: Global,
+    target: &mut Canvas,
+    call: &CopyCall,
+    values: &[u32],
+    frame: &Rect,
+    clip: &mut ClipObj,
+) -> Result<(), AllocError>
+    requires copied { RowIsCopied (Row values.now) (Copy call.now) }
+    requires fits { All (λ v. v < 2 ^ bits_of target.old.format) values.now }
+    requires width { target.old.size.w ≤ most_side }
+    requires places { length target.old.values ≡ target.old.size.w * target.old.size.h }
+    requires frame { (p : Point) → IsIn p frame.now ↔ (IsIn p call.now.rect × IsIn p (whole target.old.size)) }
+    requires some { HasPoints frame.now }
+    requires inside { All (λ r. LiesIn r target.old.size) clip.old.rects }
+    requires within { (p : Point) → IsTrue (is_in_some p clip.old.rects) → IsIn p frame.now }
+    ensures ok { OnOk result ((back : Rgb) →
+        target.new ≡ changed (new_of_copy call.now (row_operands target.old values.now back)) (λ p. is_in_some p clip.old.rects) target.old) }
+    ensures err { OnErr result (target.new ≡ target.old) }
+{
+    let from = columns_between(&call.rect.left, &frame.left) as usize;
+    let len = columns_between(&frame.left, &frame.right) as usize;
+    let row = target.row(alloc, &values[from..from + len])?;
+    let part = CopyCall {
+        target: call.target,
+        rect: *frame,
+        held: None,
+        src: ORIGIN,
+    };
+    let no_brush = BrushObj::solid(alloc, BLACK);
+    let inputs = CanvasInputs {
+        source: Some(&row),
+        mask: None,
+        brush: &no_brush,
+        back: BLACK,
+    };
+    target.draw(alloc, &DrawCall::Copy(part), &inputs, clip)
+}

@@ -1,0 +1,101 @@
+//! What stands beside a surface that is drawn on.
+
+ghost use Rattle.std.specs.Prelude.{◌≡◌, length};
+ghost use Rattle.std.specs.Option.{option_copied};
+ghost use Rattle.brush_obj.specs.declared.face.BrushFace.TheVariants as faces;
+ghost use Rattle.script_orders.specs.Asked.{MaskIsOther};
+ghost use Rattle.geom_base.specs.declared.target.Target.{Target};
+ghost use Rattle.surf_obj.specs.Surface.{Surface};
+ghost use Rattle.desk_span.specs.Desk.{State, face_of, mask_surface, source_surface};
+ghost use Rattle.desk_span.specs.InnerBeside.{IsBeside, IsNoRow, WasMade, is_own, plain_colour};
+ghost use Rattle.desk_span.specs.InnerDrawing.{held_for, source_held};
+
+use crate::canvas::Canvas;
+use brush_obj::BrushObj;
+use pix_format::Rgb;
+use script_orders::{BrushUse, Feed, Spot};
+
+/// The surfaces and brushes of a desk but for the surface that is drawn on.
+#[derive(Clone, Copy)]
+pub struct Others<'a> {
+    /// The screen, where it isn't what is drawn on.
+    pub screen: Option<&'a Canvas>,
+    /// The bitmaps by their numbers; none in the place of the one that is drawn on.
+    pub bitmaps: &'a [Option<Canvas>],
+    pub brushes: &'a [BrushObj],
+}
+
+impl<'a> Others<'a> {
+    ghost use Rattle.std.specs.Prelude.{None, slice_index_or};
+
+    /// A bitmap that is there.
+    fn bitmap(self, number: u32) -> Option<&'a Canvas>
+        ensures { option_copied result ≡ slice_index_or self.entry.bitmaps.now number None }
+    {
+        match self.bitmaps.get(number as usize) {
+            Some(Some(bitmap)) => Some(bitmap),
+            _ => None,
+        }
+    }
+
+    /// The surface that a drawing takes its source from, where that isn't the one that is drawn on.
+    pub fn source(self, spot: Spot, feed: &Feed) -> Option<&'a Canvas>
+        ensures { (s : State) (t : Surface) (target : Target) → IsBeside s spot t self.entry → IsNoRow feed.now →
+            source_held (option_copied result) (held_for (is_own spot feed.now) target) t ≡ source_surface s t feed.now }
+    {
+        if is_own(spot, feed) {
+            return None;
+        }
+        match feed {
+            Feed::Desk => self.screen,
+            Feed::Bitmap(number) => self.bitmap(*number),
+            _ => None,
+        }
+    }
+
+    /// The mask of a drawing.
+    pub fn mask(self, mask: Option<u32>) -> Option<&'a Canvas>
+        ensures { (s : State) (spot : Spot) (t : Surface) → IsBeside s spot t self.entry → MaskIsOther spot mask → option_copied result ≡ mask_surface s mask }
+    {
+        match mask {
+            Some(number) => self.bitmap(number),
+            None => None,
+        }
+    }
+
+    /// The brush of a drawing; `plain` where it isn't one that was made.
+    pub fn brush(self, with: BrushUse, plain: &'a BrushObj) -> &'a BrushObj
+        requires plain { plain.now.face ≡ faces.Solid (plain_colour with) }
+        requires made { WasMade (length self.brushes.now) with }
+        ensures { (s : State) (spot : Spot) (t : Surface) → IsBeside s spot t self.entry → result.now.face ≡ face_of s with }
+    {
+        match with {
+            BrushUse::Made(number) => &self.brushes[number as usize],
+            _ => plain,
+        }
+    }
+}
+
+/// What is drawn on is the drawing's source.
+pub fn is_own(spot: Spot, feed: &Feed) -> bool
+    ensures { result ≡ is_own spot feed.now }
+{
+    match feed {
+        Feed::Desk => spot == Spot::Desk,
+        Feed::Bitmap(number) => spot == Spot::Bitmap(*number),
+        _ => false,
+    }
+}
+
+/// The colour of what isn't there.
+pub const BLACK: Rgb = Rgb { r: 0, g: 0, b: 0 };
+
+/// The colour of a brush that isn't one that was made.
+pub fn plain_colour(with: BrushUse) -> Rgb
+    ensures { result ≡ plain_colour with }
+{
+    match with {
+        BrushUse::Colour(colour) => colour,
+        _ => BLACK,
+    }
+}
