@@ -47,7 +47,7 @@ def rects_given(program, words):
 
 def each(program, words, runs):
     """The seconds of one operation."""
-    return seconds_each(lambda count, runs: least([program, *words, str(count)], b"", runs), runs, LONG, MOST)
+    return seconds_each(lambda count, tries: least([program, *words, str(count)], b"", tries), runs, LONG, MOST)
 
 
 def shape_cases(program, pixman, runs):
