@@ -15,7 +15,32 @@ use Rattle.geom_base.specs.PointLaws.{is_in-IsIn, same_edges}
 use Rattle.region.specs.Order.{ComesFirst, IsInOrder}
 use Rattle.region.specs.Region.{IsRegion, IsRegionOf}
 use Rattle.region.proofs.RegionLemmas.{region_is_unique}
-use Rattle.region.proofs.BandLemmas.{rect_canonical, rect_bands, rect_columns}
+use Rattle.region.proofs.StepLemmas.{lt_is, ge_is}
+use Rattle.region.proofs.RegionLemmas.{no_columns}
+use Rattle.region.specs.Columns.{HasColumns, Columns, has_column}
+use Rattle.region.specs.Band.{Bands, IsCanonical}
+use Rattle.std.proofs.Common.{◌<ℤ◌, true, pos}
+use Rattle.std.proofs.lemmas.Bool.{false≢true}
+
+-- the bands of a rectangle
+abbrev rect_columns : Rect → Columns
+rect_columns r = record { from = r.left; value = true } ∷ record { from = r.right; value = false } ∷ []
+
+abbrev rect_bands : Rect → Columns → Bands
+rect_bands r columns = record { from = r.top; value = columns } ∷ record { from = r.bottom; value = [] } ∷ []
+
+rect_has_columns : (r : Rect) → r.left <ℤ r.right → HasColumns (rect_columns r)
+rect_has_columns r h = record { reduced = ((λ same. false≢true (sym (same (pos 0)))), h, ((λ same. false≢true (same (pos 0))), tt, tt)); ends = refl }
+
+not_none : (r : Rect) → r.left <ℤ r.right → has_column (rect_columns r) r.left ≡ true
+not_none r h = rw (ge_is r.left r.left (omega (arith, ints)), lt_is r.left r.right h) refl
+
+rect_canonical : (r : Rect) → r.left <ℤ r.right → r.top <ℤ r.bottom → IsCanonical (rect_bands r (rect_columns r))
+rect_canonical r h k = record {
+  reduced = ((λ same. false≢true (sym (same r.left) ∙ not_none r h)), k, ((λ same. false≢true (same r.left ∙ not_none r h)), tt, tt));
+  values = (rect_has_columns r h, (no_columns, tt));
+  ends = refl;
+}
 
 -- a rectangle with points is the list of its points
 pub rect_is_region : (r : Rect) → HasPoints r → IsRegionOf (λ p. is_in p r) (r ∷ [])

@@ -9,7 +9,7 @@ use Rattle.geom_base.specs.declared.point.Point.{Point}
 use Rattle.geom_base.specs.declared.rect.Rect.{Rect}
 use Rattle.geom_base.specs.Points.{IsIn, is_in, is_in_some}
 use Rattle.geom_base.specs.PointLaws.{is_in-IsIn}
-use Rattle.region.specs.declared.step.Step.{Step}
+use Rattle.region.specs.Steps.{Step}
 use Rattle.region.specs.Steps.{value_at, AllValid, Same}
 use Rattle.region.specs.Columns.{column, HasColumns, has_column}
 use Rattle.region.specs.Band.{Bands, has_point, IsCanonical, span_rects, row_rects, rects_of}

@@ -5,14 +5,15 @@ use Rattle.std.proofs.lemmas.Bool.{false≢true}
 use Rattle.std.proofs.lemmas.Bool.{cases_Bool, or_cases, or_left, or_right}
 use mathlib.Core.Bool.{or-false}
 use Rattle.geom_base.specs.Tests.{int_lt-true, int_lt-false}
-use Rattle.region.specs.declared.step.Step.{Step}
+use Rattle.region.specs.Steps.{Step}
 use Rattle.region.specs.declared.row.Row.{Row}
 use Rattle.region.specs.declared.strip.Strip.{Strip}
 use Rattle.region.specs.declared.cover.Cover.{Cover}
 use Rattle.region.specs.declared.cover.Cover.TheVariants.{Cell, Pair'}
 use Rattle.region.specs.InnerRow.{IsSound}
 use Rattle.region.specs.InnerStrip.{within}
-use Rattle.region.specs.InnerCover.{strip_of, covers, filled_in, first_in, last_in, change, steps_in, IsRowOf, IsShaped, SameStrip, SameShape}
+use Rattle.region.specs.InnerSpanList.{change}
+use Rattle.region.specs.InnerCover.{strip_of, covers, filled_in, first_in, last_in, steps_in, IsRowOf, IsShaped, SameStrip, SameShape}
 use Rattle.region.specs.InnerBandList.{run_count}
 use Rattle.region.proofs.StepLemmas.{lt_is, ge_is, at_or_before}
 use Rattle.region.proofs.CountLemmas.{flag}
@@ -74,12 +75,6 @@ covers_within (Pair' s p l q r) h y x e = elim (choose (int_lt y s.until) (withi
 
 pub not_covered : (t : Cover) → IsShaped t → (y x : ℤ) → within (strip_of t) x ≡ false → covers t y x ≡ false
 not_covered t h y x w = elim (cases_Bool (covers t y x)) [ inl c ↦ absurd (false≢true (sym w ∙ covers_within t h y x c)) | inr c ↦ c ]
-
--- the parts of a strip have no common column
-parts_apart : (l r : Cover) → IsShaped l → IsShaped r → (strip_of l).to ≡ (strip_of r).from → (y z x : ℤ) → covers l y x ≡ true → covers r z x ≡ true → ⊥
-parts_apart l r hl hr e y z x a b =
-    let i : ((strip_of l).from ≤ℤ x) × (x <ℤ (strip_of l).to) = within_is (strip_of l) x (covers_within l hl y x a) in
-    let k : ((strip_of r).from ≤ℤ x) × (x <ℤ (strip_of r).to) = within_is (strip_of r) x (covers_within r hr z x b) in omega (arith, ints, i.1, k.0, e)
 
 pub filled_le : (t : Cover) → IsShaped t → (y : ℤ) → filled_in t y ≤ (strip_of t).size
 filled_le (Cell s) h y = pick (λ n. n ≤ s.size) (int_lt y s.until) s.size 0 (omega arith) (omega arith)

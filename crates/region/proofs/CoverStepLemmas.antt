@@ -4,7 +4,7 @@ use Rattle.std.proofs.lemmas.Int.{ints}
 use Rattle.std.proofs.lemmas.List.{append-nil}
 use Rattle.std.proofs.lemmas.Bool.{false≢true}
 use Rattle.std.proofs.lemmas.Bool.{cases_Bool}
-use Rattle.region.specs.declared.step.Step.{Step}
+use Rattle.region.specs.Steps.{Step}
 use Rattle.region.specs.declared.strip.Strip.{Strip}
 use Rattle.region.specs.declared.cover.Cover.{Cover}
 use Rattle.region.specs.declared.cover.Cover.TheVariants.{Cell, Pair'}
@@ -13,11 +13,12 @@ use Rattle.region.specs.InnerColumns.{IsColumns}
 use Rattle.region.specs.InnerStrip.{within}
 use Rattle.region.specs.Steps.{value_at, final_value, BeginsAfter, IsReduced}
 use Rattle.region.specs.InnerSteps.{BeginsFrom, AllFit}
-use Rattle.region.specs.InnerCover.{strip_of, covers, filled_in, last_in, change, steps_in, columns_in, IsShaped, IsCover}
+use Rattle.region.specs.InnerSpanList.{change}
+use Rattle.region.specs.InnerCover.{strip_of, covers, filled_in, last_in, steps_in, columns_in, IsShaped, IsCover}
 use Rattle.region.specs.InnerBandList.{run_count}
 use Rattle.region.proofs.StepLemmas.{ge_is, at_or_before, value_at-before, BeginsAfter-earlier}
 use Rattle.region.proofs.CoverLemmas.{or_none, within_is, within_if, has_width, has_size, not_covered, run_count-append}
-use Rattle.region.proofs.CoverTurnLemmas.{told, parts_last}
+use Rattle.region.proofs.CoverTurnLemmas.{told}
 
 or_other : (a b : Bool) → a ≡ false → b ≡ (a || b)
 or_other a b e = rw e refl
@@ -240,33 +241,14 @@ nothing_covered (Pair' s p l q r) h y n before = elim (cases_Bool (int_lt y s.un
       )
 ]
 
-pub no_steps : (t : Cover) → IsShaped t → (y : ℤ) → filled_in t y ≡ 0 → (before : Bool) → steps_in t y before ≡ change before false (strip_of t).from
-no_steps t h y n before = (nothing_covered t h y n before).0
-
--- what code pushes for a pair
+-- what code turns for a pair
 
 pub empty_steps : (z : ℤ) (t : Cover) (s : Strip) (p : _) (l : Cover) (q : _) (r : Cover) (before : Bool) → t ≡ Pair' s p l q r → IsCover z t →
-    z ≤ℤ (strip_of t).steady → s.row.filled ≡ 0 → steps_in t z before ≡ change before false s.from
+    z ≤ℤ (strip_of t).steady → s.row.filled ≡ 0 → (steps_in t z before ≡ change before false s.from) × (last_in t z ≡ false)
 empty_steps z t s p l q r before et c now n =
     let f : (strip_of t).row.filled ≡ filled_in t z = (told z t c.seen z (omega (arith, ints)) now).filled in
-    no_steps t c.shaped z (sym f ∙ ap (λ u. (strip_of u).row.filled) et ∙ n) before ∙ ap (λ u. change before false (strip_of u).from) et
-
-pub pair_steps : (z : ℤ) (t : Cover) (s : Strip) (p : _) (l : Cover) (q : _) (r : Cover) (before last : Bool) (out more all : List (Step Bool)) →
-    t ≡ Pair' s p l q r → IsCover z t → z ≤ℤ (strip_of t).steady → s.until ≤ℤ z →
-    more ≡ out ++ steps_in l z before → last ≡ (strip_of l).row.last → all ≡ more ++ steps_in r z last → all ≡ out ++ steps_in t z before
-pair_steps z t s p l q r before last out more all et c now u em el ea =
-    let d : IsCover z (Pair' s p l q r) = subst (IsCover z) et c in
-    let k = parts_last z s p l q r d.seen (subst (λ v. z ≤ℤ (strip_of v).steady) et now) u in
-    let e : last ≡ last_in l z = el ∙ (told z l d.seen.2 z (omega (arith, ints)) k.0).last in
-    let f : steps_in (Pair' s p l q r) z before ≡ steps_in l z before ++ steps_in r z (last_in l z) = rw (ge_is z s.until u) refl in
-    ea ∙ rw (em, e) (append_assoc out (steps_in l z before) (steps_in r z (last_in l z))) ∙ ap (λ v. out ++ v) (sym f ∙ ap (λ v. steps_in v z before) (sym et))
-
-pub parts_current : (z : ℤ) (t : Cover) (s : Strip) (p : _) (l : Cover) (q : _) (r : Cover) → t ≡ Pair' s p l q r → IsCover z t → z ≤ℤ (strip_of t).steady →
-    s.until ≤ℤ z → (IsCover z l × (z ≤ℤ (strip_of l).steady)) × (IsCover z r × (z ≤ℤ (strip_of r).steady))
-parts_current z t s p l q r et c now u =
-    let d : IsCover z (Pair' s p l q r) = subst (IsCover z) et c in
-    let k = parts_last z s p l q r d.seen (subst (λ v. z ≤ℤ (strip_of v).steady) et now) u in
-    ((record { shaped = d.shaped.4; seen = d.seen.2 }, k.0), (record { shaped = d.shaped.5; seen = d.seen.3 }, k.1))
+    let none = nothing_covered t c.shaped z (sym f ∙ ap (λ u. (strip_of u).row.filled) et ∙ n) before in
+    (none.0 ∙ ap (λ u. change before false (strip_of u).from) et, none.1)
 
 -- the runs that a strip tells
 pub told_runs : (z : ℤ) (t : Cover) (s : Strip) → IsCover z t → z ≤ℤ (strip_of t).steady → s ≡ strip_of t → s.row.runs ≡ run_count (columns_in t z)

@@ -14,7 +14,7 @@ use Rattle.region.specs.declared.cover.Cover.TheVariants.{Cell, Pair'}
 use Rattle.region.specs.InnerRow.{full_row, empty_row, beside, IsSound}
 use Rattle.region.specs.InnerStrip.{within, seen_at, covered_until}
 use Rattle.region.specs.InnerCover.{strip_of, covers, filled_in, first_in, last_in, steps_in, IsRowOf, IsTold, IsSeen}
-use Rattle.region.specs.InnerCover.{IsShaped, IsCover, Splits, SameStrip, SameShape, reaches, IsAdded, IsMoved}
+use Rattle.region.specs.InnerCover.{IsShaped, IsCover, SameStrip, SameShape, reaches, IsAdded, IsMoved}
 use Rattle.region.specs.InnerBandList.{run_count}
 use Rattle.region.proofs.StepLemmas.{lt_is, ge_is}
 use Rattle.region.proofs.CountLemmas.{flag}
@@ -349,16 +349,6 @@ in_one a b c d e = elim (cases_Bool (int_lt a b)) [
   | inl u ↦ inl (int_lt-false c d (rw u at e))
   | inr u ↦ inr (int_lt-false a b u)
 ]
-
-both_le : (a b c d : ℤ) → a ≤ℤ b → c ≤ℤ d → (int_le a b && int_le c d) ≡ true
-both_le a b c d h k = grind (arith, ints)
-
--- a cell that an edge does not split is outside of what does not have it whole
-pub cell_outside : (rect : Rect) (s : Strip) → Splits rect.left (Cell s) → Splits rect.right (Cell s) →
-    (int_le rect.left s.from && int_le s.to rect.right) ≡ false → (rect.right ≤ℤ s.from) ⊎ (s.to ≤ℤ rect.left)
-cell_outside rect s (inr l) r e = inr l
-cell_outside rect s (inl l) (inl r) e = inl r
-cell_outside rect s (inl l) (inr r) e = absurd (false≢true (sym e ∙ both_le rect.left s.from s.to rect.right l r))
 
 pub added_whole : (z : ℤ) (rect : Rect) (t : Cover) (s : Strip) (p : _) (l : Cover) (q : _) (r : Cover) (u : Strip) → t ≡ Pair' s p l q r → IsCover z t →
     rect.left ≤ℤ s.from → s.to ≤ℤ rect.right → z <ℤ rect.bottom →

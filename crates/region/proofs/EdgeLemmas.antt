@@ -1,15 +1,15 @@
 use Rattle.std.proofs.Common.{◌≡◌, ◌∙◌, ℕ, ℤ, ◌+◌, ◌-◌, ◌≤◌, ◌<ℤ◌, ◌≤ℤ◌, pos, negsuc, List, [], ◌∷◌, ◌++◌, false, refl, ap, sym, subst}
-use Rattle.std.proofs.Common.{arith, ◌⊎◌, inl, inr, int_lt, append_assoc, length-append, FitsSigned, w32}
+use Rattle.std.proofs.Common.{arith, ◌⊎◌, inl, inr, int_lt, append_assoc, length-append}
 use Rattle.std.proofs.lemmas.Int.{ints}
 use Rattle.region.specs.declared.strip.Strip.{Strip}
 use Rattle.region.specs.declared.cover.Cover.{Cover}
 use Rattle.region.specs.declared.cover.Cover.TheVariants.{Cell, Pair'}
 use Rattle.region.specs.InnerRow.{empty_row}
 use Rattle.region.specs.InnerCover.{strip_of, IsShaped, IsRowOf, Splits, SameShape}
-use Rattle.region.specs.InnerEdges.{IsRisingFrom, right_edges, IsBuilt}
+use Rattle.region.specs.InnerEdges.{right_edges, IsBuilt}
 use Rattle.region.proofs.StepLemmas.{ge_is}
 use Rattle.region.proofs.CoverLemmas.{has_width}
-use Rattle.region.proofs.CoverTurnLemmas.{told, empty_told, beside_told}
+use Rattle.region.proofs.CoverTurnLemmas.{told, beside_told}
 
 -- an edge that is not inside the strip splits none of its cells
 pub splits_outside : (t : Cover) → IsShaped t → (e : ℤ) → (e ≤ℤ (strip_of t).from) ⊎ ((strip_of t).to ≤ℤ e) → Splits e t
@@ -77,24 +77,6 @@ new_strip from to size = record { from = from; to = to; size = size; until = neg
 
 not_before : (y : ℤ) → negsuc 2147483647 ≤ℤ y → int_lt y (negsuc 2147483647) ≡ false
 not_before y h = ge_is y (negsuc 2147483647) h
-
-pub cell_built : (from to : ℤ) (edges rest : List ℤ) → edges ≡ to ∷ rest → IsRisingFrom from edges → FitsSigned w32 from → FitsSigned w32 to →
-    IsBuilt from edges 1 (Cell (new_strip from to 1)) rest
-cell_built from to edges rest e h f g =
-    let k = subst (IsRisingFrom from) e h in
-    record {
-      edges_are = e;
-      count_is = refl;
-      size = refl;
-      from_is = refl;
-      from_fits = f;
-      to_fits = g;
-      rising = k.1;
-      row = refl;
-      cover = record { shaped = (k.0, refl); seen = λ y a b. empty_told (new_strip from to 1) y (not_before y a) };
-      steady = refl;
-      bare = λ y x h. rw (not_before y h) refl;
-    }
 
 pub pair_built : (from : ℤ) (edges : List ℤ) (n m : ℕ) (p : _) (l : Cover) (q : _) (r : Cover) (middle rest : List ℤ) → IsBuilt from edges n l middle →
     IsBuilt (strip_of l).to middle m r rest →

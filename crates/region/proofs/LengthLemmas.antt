@@ -7,7 +7,7 @@ use Rattle.std.proofs.lemmas.List.Elements.{All-nil, All-cons, All-head, All-tai
 use Rattle.geom_base.specs.declared.point.Point.{Point}
 use Rattle.geom_base.specs.declared.rect.Rect.{Rect}
 use Rattle.geom_base.specs.Points.{is_in, is_in_some}
-use Rattle.region.specs.declared.step.Step.{Step}
+use Rattle.region.specs.Steps.{Step}
 use Rattle.region.specs.Steps.{value_at, final_value, BeginsAfter, AllValid, Same, IsReduced}
 use Rattle.region.specs.InnerSteps.{IsOrdered}
 use Rattle.region.specs.Columns.{Columns, column, has_column, HasColumns}
@@ -180,7 +180,7 @@ abbrev HasFew : ℕ → Columns → Type 0
 HasFew n columns = run_count columns ≤ n
 
 count_few : (n : ℕ) (b : Step Columns) (bands : Bands) → AllValid (HasFew n) (b ∷ bands) → final_value b.value bands ≡ [] →
-    rect_count (λ c. c) (b ∷ bands) ≤ length bands * n
+    rect_count (b ∷ bands) ≤ length bands * n
 count_few n b [] h e = rw e (omega arith)
 count_few n b (c ∷ bands) h e = let rest = count_few n c bands h.1 e in grind (arith, h.0, rest)
 
@@ -188,7 +188,7 @@ one_less : (k m n : ℕ) → k + 1 ≤ 2 * m → k * n ≤ n * (2 * m - 1)
 one_less k m n h = grind arith
 
 bands_few : (n m : ℕ) (bands : Bands) → AllValid (HasFew n) bands → final_value [] bands ≡ [] → length bands ≤ 2 * m →
-    rect_count (λ c. c) bands ≤ n * (2 * m - 1)
+    rect_count bands ≤ n * (2 * m - 1)
 bands_few n m [] h e l = omega arith
 bands_few n m (b ∷ bands) h e l =
     let first = count_few n b bands h e in let second = one_less (length bands) m n (omega (arith, l)) in omega (arith, first, second)
@@ -206,7 +206,7 @@ columns_few parts set y columns made h points =
     half_few (run_count columns) (length parts) (omega (arith, few, half_are_runs columns h, column_edges_twice parts))
 
 canonical_few : (parts : List Rect) (set : Point → Bool) (bands : Bands) → IsMadeOf parts set → IsCanonical bands →
-    ((p : Point) → has_point bands p ≡ set p) → rect_count (λ c. c) bands ≤ length parts * (2 * length parts - 1)
+    ((p : Point) → has_point bands p ≡ set p) → rect_count bands ≤ length parts * (2 * length parts - 1)
 canonical_few parts set bands made h points =
     let o = reduced_is_ordered has_column [] bands h.reduced in
     let rows = few_steps (row_edges parts) bands o (among_edges has_column (row_edges parts) [] bands h.reduced

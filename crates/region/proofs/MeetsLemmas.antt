@@ -1,250 +1,217 @@
--- Where columns and bands meet what is asked for.
-use Rattle.std.proofs.Common.{◌≡◌, ◌∙◌, ℕ, ◌<◌, ◌≤◌, ◌-◌, zero, suc, ℤ, ◌+ℤ◌, ◌<ℤ◌, ◌≤ℤ◌, pos, List, [], ◌∷◌, ◌++◌, take, drop, length, get_or}
-use Rattle.std.proofs.Common.{Bool, true, false, cond, refl, ap, sym, subst, arith, ◌⊎◌, inl, inr, IsTrue, int_lt}
-use Rattle.std.proofs.lemmas.Int.{ints}
+-- Where a region has a point of a rectangle.
+use Rattle.std.proofs.Common.{◌≡◌, ◌∙◌, ℕ, ◌<◌, ◌≤◌, zero, suc, ℤ, ◌<ℤ◌, ◌≤ℤ◌, List, [], ◌∷◌, take, drop, length, get_or}
+use Rattle.std.proofs.Common.{Bool, true, false, ◌&&◌, ◌||◌, refl, ap, sym, arith, IsTrue, int_lt, int_le}
+use Rattle.std.specs.Int.{int_max}
+use Rattle.std.specs.List.{All}
+use Rattle.std.proofs.lemmas.Int.{ints, clamps}
 use Rattle.std.proofs.lemmas.Bool.{false≢true}
 use Rattle.std.proofs.lemmas.List.{take-append-drop}
+use Rattle.std.proofs.lemmas.List.Folds.{list_any-append}
+use Rattle.std.proofs.lemmas.List.Elements.{All-cons, All-head, All-tail, All-take, All-drop, All-weaker}
 use Rattle.geom_base.specs.declared.point.Point.{Point}
 use Rattle.geom_base.specs.declared.rect.Rect.{Rect}
-use Rattle.geom_base.specs.Points.{IsIn, is_in, HasPoints}
+use Rattle.geom_base.specs.Points.{IsIn, is_in, is_in_some, HasPoints}
 use Rattle.geom_base.specs.PointLaws.{is_in-IsIn}
-use Rattle.region.specs.declared.step.Step.{Step}
-use Rattle.region.specs.Steps.{value_at, final_value, BeginsAfter, AllValid, Same, IsReduced}
-use Rattle.region.specs.InnerSteps.{EndsBefore, IsOrdered}
-use Rattle.region.specs.Columns.{Columns, column, has_column, HasColumns}
-use Rattle.region.specs.InnerColumns.{IsColumns}
-use Rattle.region.specs.Band.{Bands, has_point}
-use Rattle.region.specs.InnerBand.{lists_of, IsBands}
+use Rattle.region.specs.Order.{IsInOrder}
 use Rattle.region.specs.Region.{SharesPoint}
-use Rattle.region.specs.InnerMeets.{HasColumnIn, ArePart}
-use Rattle.region.proofs.StepLemmas.{ge_is, at_or_before, value_at-before}
-use Rattle.region.proofs.RegionLemmas.{begins_after, ordered_back, canonical_is_ordered}
-use Rattle.region.proofs.SearchLemmas.{value_at-passed}
+use Rattle.region.specs.Canonical.{point_from}
+use Rattle.region.specs.InnerCursor.{in_columns, AreInBand}
+use Rattle.region.specs.InnerMeets.{HasColumnIn, IsLeft}
+use Rattle.region.proofs.SearchLemmas.{pairs_head}
+use Rattle.region.proofs.CursorLemmas.{in_order_drop, in_order_take, sorted_by_top, none_above, rows_rest, in_row, one_row_is_band, none_left}
+use Rattle.region.proofs.CursorLemmas.{columns_rest, first_decides, is_begun}
 
--- columns
+-- columns of a band
 
--- what is left of reduced steps
-reduced_rest : (v : Bool) (passed rest : List (Step Bool)) → IsReduced column v (passed ++ rest) → IsReduced column (final_value v passed) rest
-reduced_rest v [] rest h = h
-reduced_rest v (s ∷ passed) rest h = reduced_rest s.value passed rest h.2
+more_to_left : (right : ℤ) (r : Rect) (rects : List Rect) → AreInBand (r ∷ rects) → right ≤ℤ r.left → All (λ q. right ≤ℤ q.left) (r ∷ rects)
+more_to_left right r rects h le =
+    let across : r.left <ℤ r.right = All-head (λ q. q.left <ℤ q.right) r rects h.columns in
+    All-cons (λ q. right ≤ℤ q.left) r rects le
+    (All-weaker (λ q. r.right <ℤ q.left) (λ q. right ≤ℤ q.left) (λ q k. omega (arith, ints, k, le, across)) rects
+    (pairs_head (λ a b. a.right <ℤ b.left) r rects h.order))
 
--- the parts of columns before a column and after it
-pub record AreParts (columns passed rest : Columns) (left : ℤ) : Type 0 where
-  pub all : columns ≡ passed ++ rest
-  pub has : HasColumns columns
-  pub before : EndsBefore (left +ℤ pos 1) passed
-  pub later : BeginsAfter left rest
+-- where the first that has not ended begins before the right edge, it has such a column
+first_has : (left right : ℤ) (r : Rect) (rects : List Rect) → AreInBand (r ∷ rects) → left <ℤ r.right → left <ℤ right → r.left <ℤ right →
+    HasColumnIn (r ∷ rects) left right
+first_has left right r rects h ahead across begins =
+    let wide : r.left <ℤ r.right = All-head (λ q. q.left <ℤ q.right) r rects h.columns in
+    record {
+      place = int_max left r.left;
+      held = first_decides (int_max left r.left) r rects h (omega (arith, ints, clamps, ahead, wide))
+          ∙ is_begun r.left (int_max left r.left) (omega (arith, ints, clamps));
+      from = omega (arith, ints, clamps);
+      before = omega (arith, ints, clamps, across, begins);
+    }
 
-pub parts_at : (columns passed rest : Columns) (left : ℤ) (n : ℕ) → HasColumns columns → EndsBefore (left +ℤ pos 1) (take n columns) →
-    BeginsAfter left (drop n columns) → passed ≡ take n columns → rest ≡ drop n columns → AreParts columns passed rest left
-parts_at columns passed rest left n h before later front back =
-    rw (front, back) (record { all = sym (take-append-drop n columns); has = h; before = before; later = later })
+pub column_in_rest : (left right : ℤ) (rects : List Rect) (n : ℕ) → All (λ r. r.right ≤ℤ left) (take n rects) → HasColumnIn (drop n rects) left right →
+    HasColumnIn rects left right
+column_in_rest left right rects n ended h =
+    record { place = h.place; held = sym (columns_rest h.place left rects n ended h.from) ∙ h.held; from = h.from; before = h.before }
 
-EndsBefore-more : {V : Type 0} (y z : ℤ) (steps : List (Step V)) → y ≤ℤ z → EndsBefore y steps → EndsBefore z steps
-EndsBefore-more y z [] h e = tt
-EndsBefore-more y z (s ∷ steps) h e = (omega (arith, ints, e.0), EndsBefore-more y z steps h e.1)
+pub column_of_rest : (left right : ℤ) (rects : List Rect) (n : ℕ) → All (λ r. r.right ≤ℤ left) (take n rects) → HasColumnIn rects left right →
+    HasColumnIn (drop n rects) left right
+column_of_rest left right rects n ended h =
+    record { place = h.place; held = columns_rest h.place left rects n ended h.from ∙ h.held; from = h.from; before = h.before }
 
-part_value : (columns passed rest : Columns) (left x : ℤ) → AreParts columns passed rest left → left ≤ℤ x →
-    has_column columns x ≡ value_at (final_value false passed) rest x
-part_value columns passed rest left x h le = ap (λ c. has_column c x) h.all
-    ∙ value_at-passed false passed rest x (EndsBefore-more (left +ℤ pos 1) (x +ℤ pos 1) passed (omega (arith, ints)) h.before)
+pub none_of_none : (left right : ℤ) (rects : List Rect) → length rects < 1 → HasColumnIn rects left right → ⊥
+none_of_none left right [] short h = false≢true h.held
+none_of_none left right (r ∷ rects) short h = omega (arith, short)
 
-part_reduced : (columns passed rest : Columns) (left : ℤ) → AreParts columns passed rest left → IsReduced column (final_value false passed) rest
-part_reduced columns passed rest left h = reduced_rest false passed rest (subst (IsReduced column false) h.all h.has.reduced)
+pub first_column : (left right : ℤ) (rects : List Rect) (d : Rect) → AreInBand rects → All (λ r. left <ℤ r.right) rects → left <ℤ right → 1 ≤ length rects →
+    (get_or rects 0 d).left <ℤ right → HasColumnIn rects left right
+first_column left right [] d h ahead across long begins = absurd (omega (arith, long))
+first_column left right (r ∷ rects) d h ahead across long begins =
+    first_has left right r rects h (All-head (λ q. left <ℤ q.right) r rects ahead) across begins
 
--- the first column is one of the set
-pub first_is_in : (columns passed rest : Columns) (left right : ℤ) → AreParts columns passed rest left → left <ℤ right → final_value false passed ≡ true →
-    HasColumnIn columns left right
-first_is_in columns passed rest left right h across e = record {
-  column = left;
-  from_left = omega (arith, ints);
-  to_right = across;
-  held = part_value columns passed rest left left h (omega (arith, ints)) ∙ value_at-before (final_value false passed) rest left h.later ∙ e;
+no_column : (left right : ℤ) (rects : List Rect) (d : Rect) → AreInBand rects → 1 ≤ length rects → right ≤ℤ (get_or rects 0 d).left →
+    HasColumnIn rects left right → ⊥
+no_column left right [] d h long le has = omega (arith, long)
+no_column left right (r ∷ rects) d h long le has =
+    false≢true (sym (none_left has.place (r ∷ rects)
+    (All-weaker (λ q. right ≤ℤ q.left) (λ q. has.place <ℤ q.left) (λ q k. omega (arith, ints, k, has.before)) (r ∷ rects) (more_to_left right r rects h le)))
+    ∙ has.held)
+
+is_before : (a b : ℤ) → int_lt a b ≡ true → a <ℤ b
+is_before a b e = grind (arith, ints)
+
+is_not_before : (a b : ℤ) → int_lt a b ≡ false → b ≤ℤ a
+is_not_before a b e = grind (arith, ints)
+
+before_by : (a b : ℤ) (test : Bool) → int_lt a b ≡ test → (b ≤ℤ a → ⊥) → a <ℤ b
+before_by a b true e none = is_before a b e
+before_by a b false e none = absurd (none (is_not_before a b e))
+
+-- where it has one, the first begins before the right edge
+pub first_begins : (left right : ℤ) (rects : List Rect) (d : Rect) → AreInBand rects → 1 ≤ length rects → HasColumnIn rects left right →
+    (get_or rects 0 d).left <ℤ right
+first_begins left right rects d h long has =
+    let first = (get_or rects 0 d).left in
+    before_by first right (int_lt first right) refl (λ le. no_column left right rects d h long le has)
+
+-- points
+
+-- the first rectangle that is left and those beside it
+tops_from : (rects : List Rect) (d : Rect) → IsInOrder rects → 1 ≤ length rects → All (λ r. (get_or rects 0 d).top ≤ℤ r.top) rects
+tops_from [] d h long = absurd (omega (arith, long))
+tops_from (r ∷ rects) d h long =
+    All-cons (λ q. r.top ≤ℤ q.top) r rects (omega (arith, ints)) (pairs_head (λ a b. a.top ≤ℤ b.top) r rects (sorted_by_top (r ∷ rects) h))
+
+-- what is left where the highest have ended
+pub left_at_first : (rects : List Rect) (rect : Rect) (n : ℕ) → IsInOrder rects → All (λ r. r.bottom ≤ℤ rect.top) (take n rects) →
+    All (λ r. rect.top <ℤ r.bottom) (drop n rects) → IsLeft rects rect (drop n rects)
+left_at_first rects rect n h ended ahead = record {
+  order = in_order_drop n rects h;
+  ahead = ahead;
+  points = λ p t. rows_rest p rect.top rects n ended ((is_in-IsIn p rect).0 t).from_top;
 }
 
--- none comes before the next step
-none_before : (columns passed rest : Columns) (left right : ℤ) → AreParts columns passed rest left → final_value false passed ≡ false →
-    ((x : ℤ) → x <ℤ right → BeginsAfter x rest) → HasColumnIn columns left right → ⊥
-none_before columns passed rest left right h e after c =
-    false≢true (sym e ∙ sym (value_at-before (final_value false passed) rest c.column (after c.column c.to_right))
-    ∙ sym (part_value columns passed rest left c.column h c.from_left) ∙ c.held)
+pub none_below : (rects : List Rect) (rect : Rect) (rest : List Rect) (d : Rect) → IsLeft rects rect rest → 1 ≤ length rest →
+    rect.bottom ≤ℤ (get_or rest 0 d).top → SharesPoint (λ p. is_in_some p rects) rect → ⊥
+none_below rects rect rest d h long le s =
+    let inside : IsIn s.point rect = (is_in-IsIn s.point rect).0 s.inside in
+    false≢true (sym (none_above s.point rest
+    (All-weaker (λ r. (get_or rest 0 d).top ≤ℤ r.top) (λ r. s.point.y <ℤ r.top) (λ r k. omega (arith, ints, k, le, inside.to_bottom)) rest
+    (tops_from rest d h.order long)))
+    ∙ h.points s.point s.inside ∙ s.held)
 
-pub none_left : (columns passed rest : Columns) (left right : ℤ) → AreParts columns passed rest left → final_value false passed ≡ false → length rest < 1 →
-    HasColumnIn columns left right → ⊥
-none_left columns passed [] left right h e few = none_before columns passed [] left right h e (λ x lt. tt)
-none_left columns passed (s ∷ rest) left right h e few = absurd (omega (arith, few))
+-- the first so many rectangles begin with the first
+pub record IsFirstBand (rest : List Rect) (top : ℤ) (n : ℕ) : Type 0 where
+  pub order : IsInOrder rest
+  pub tops : All (λ r. top ≤ℤ r.top) rest
+  pub begun : All (λ r. r.top ≤ℤ top) (take n rest)
 
-turned_on : (v w : Bool) → (¬ Same column v w) → w ≡ false → v ≡ true
-turned_on true w d e = refl
-turned_on false w d e = absurd (d (λ x. sym e))
+pub first_band : (rest : List Rect) (d : Rect) (n : ℕ) → IsInOrder rest → 1 ≤ length rest → All (λ r. r.top ≤ℤ (get_or rest 0 d).top) (take n rest) →
+    IsFirstBand rest (get_or rest 0 d).top n
+first_band rest d n h long begun = record { order = h; tops = tops_from rest d h long; begun = begun }
 
--- the next step begins columns of the set
-pub next_decides : (columns passed rest : Columns) (left right : ℤ) (d : Step Bool) → AreParts columns passed rest left → final_value false passed ≡ false →
-    1 ≤ length rest → ((get_or rest 0 d).from <ℤ right → HasColumnIn columns left right) × (HasColumnIn columns left right → (get_or rest 0 d).from <ℤ right)
-next_decides columns passed [] left right d h e some = absurd (omega (arith, some))
-next_decides columns passed (next ∷ rest) left right d h e some =
-    let reduced = part_reduced columns passed (next ∷ rest) left h in (
-      λ lt. record {
-        column = next.from;
-        from_left = omega (arith, ints, h.later);
-        to_right = lt;
-        held = part_value columns passed (next ∷ rest) left next.from h (omega (arith, ints, h.later))
-            ∙ rw (ge_is next.from next.from (omega (arith, ints))) (value_at-before next.value rest next.from reduced.1)
-            ∙ turned_on next.value (final_value false passed) reduced.0 e;
-      },
-      λ c. elim (at_or_before next.from right) [
-        | inl lt ↦ lt
-        | inr le ↦ absurd (none_before columns passed (next ∷ rest) left right h e (λ x lt. omega (arith, ints, lt, le)) c)
-      ],
-    )
+ends_after : (n : ℕ) (rest : List Rect) (top : ℤ) → IsFirstBand rest top n → All (λ r. top <ℤ r.bottom) (take n rest)
+ends_after n rest top h = λ k d lt.
+    let down : (get_or (take n rest) k d).top <ℤ (get_or (take n rest) k d).bottom = (All-take HasPoints n rest h.order.points k d lt).down in
+    omega (arith, ints, down, All-take (λ r. top ≤ℤ r.top) n rest h.tops k d lt)
 
--- bands
+pub first_is_band : (rest : List Rect) (top : ℤ) (n : ℕ) → IsFirstBand rest top n → AreInBand (take n rest)
+first_is_band rest top n h = one_row_is_band top (take n rest) (in_order_take n rest h.order) h.begun (ends_after n rest top h)
 
--- the first of some bands
-pub part_here : {V : Type 0} {columns : V → Columns} {all rest : List (Step V)} {r : Rect} {b : Step V} (d : Step V) → ArePart columns all r rest →
-    1 ≤ length rest → b ≡ get_or rest 0 d → ArePart columns all r (b ∷ drop 1 rest)
-part_here {columns = columns} {all = all} {rest = []} {r = r} {b = b} d h some e = absurd (omega (arith, some))
-part_here {columns = columns} {all = all} {rest = c ∷ rest} {r = r} {b = b} d h some e = subst (λ u. ArePart columns all r (u ∷ rest)) (sym e) h
+one_more : (p : Point) (r : Rect) (a b : Bool) → r.top ≤ℤ p.y → p.y <ℤ r.bottom → a ≡ b → (is_in p r || a) ≡ ((int_le r.left p.x && int_lt p.x r.right) || b)
+one_more p r a b begun ahead e = ap (λ c. c || a) (in_row p r begun ahead) ∙ ap (λ c. (int_le r.left p.x && int_lt p.x r.right) || c) e
 
--- the first bands, of rows above, don't matter
-value_at-drop : {V : Type 0} (columns : V → Columns) (v w : Columns) (bands : List (Step V)) (k : ℕ) (y : ℤ) → k < length bands →
-    EndsBefore (y +ℤ pos 1) (take (suc k) bands) → value_at v (lists_of columns bands) y ≡ value_at w (lists_of columns (drop k bands)) y
-value_at-drop columns v w [] k y lt h = absurd (omega (arith, lt))
-value_at-drop columns v w (b ∷ bands) zero y lt h = rw (ge_is y b.from (omega (arith, ints, h.0))) refl
-value_at-drop columns v w (b ∷ bands) (suc k) y lt h = rw (ge_is y b.from (omega (arith, ints, h.0)))
-    (value_at-drop columns (columns b.value) w bands k y (omega (arith, lt)) h.1)
+band_points : (p : Point) (rects : List Rect) → All (λ r. r.top ≤ℤ p.y) rects → All (λ r. p.y <ℤ r.bottom) rects → is_in_some p rects ≡ in_columns p.x rects
+band_points p [] begun ahead = refl
+band_points p (r ∷ rects) begun ahead =
+    one_more p r (is_in_some p rects) (in_columns p.x rects) (All-head (λ q. q.top ≤ℤ p.y) r rects begun) (All-head (λ q. p.y <ℤ q.bottom) r rects ahead)
+    (band_points p rects (All-tail (λ q. q.top ≤ℤ p.y) r rects begun) (All-tail (λ q. p.y <ℤ q.bottom) r rects ahead))
 
-ordered_drop : {V : Type 0} (steps : List (Step V)) (k : ℕ) → IsOrdered steps → IsOrdered (drop k steps)
-ordered_drop steps zero o = o
-ordered_drop [] (suc k) o = tt
-ordered_drop (s ∷ steps) (suc k) o = ordered_drop steps k o.1
+or_true : (a b : Bool) → a ≡ true → (a || b) ≡ true
+or_true a b e = ap (λ c. c || b) e
 
-valid_drop : {V : Type 0} (valid : V → Type 0) (steps : List (Step V)) (k : ℕ) → AllValid valid steps → AllValid valid (drop k steps)
-valid_drop valid steps zero h = h
-valid_drop valid [] (suc k) h = tt
-valid_drop valid (s ∷ steps) (suc k) h = valid_drop valid steps k h.1
+parts_points : (p : Point) (rest : List Rect) (n : ℕ) → is_in_some p rest ≡ (is_in_some p (take n rest) || is_in_some p (drop n rest))
+parts_points p rest n =
+    ap (is_in_some p) (sym (take-append-drop n rest)) ∙ list_any-append (λ r. is_in p r) (take n rest) (drop n rest)
 
-drop_one : {V : Type 0} (steps : List (Step V)) (k : ℕ) → drop 1 (drop k steps) ≡ drop (suc k) steps
-drop_one steps zero = refl
-drop_one [] (suc k) = refl
-drop_one (s ∷ steps) (suc k) = drop_one steps k
-
-after_tail : {V : Type 0} (y : ℤ) (steps : List (Step V)) → IsOrdered steps → BeginsAfter y steps → BeginsAfter y (drop 1 steps)
-after_tail y [] o b = tt
-after_tail y (s ∷ []) o b = tt
-after_tail y (s ∷ t ∷ steps) o b = omega (arith, ints, o.0, b)
-
-pub bands_ordered : {V : Type 0} (columns : V → Columns) (bands : List (Step V)) → IsBands columns bands → IsOrdered bands
-bands_ordered columns bands h = ordered_back columns bands (canonical_is_ordered (lists_of columns bands) h.canonical)
-
-row_of : (p : Point) (r : Rect) → IsTrue (is_in p r) → IsIn p r
-row_of p r e = (is_in-IsIn p r).0 e
-
--- the bands from the one on in which a rectangle begins
-part_from : {V : Type 0} (columns : V → Columns) (bands : List (Step V)) (r : Rect) (begun k : ℕ) → IsBands columns bands → begun ≤ length bands →
-    EndsBefore (r.top +ℤ pos 1) (take begun bands) → BeginsAfter r.top (drop begun bands) → begun - 1 ≡ k → ArePart columns bands r (drop k bands)
-part_from columns bands r zero k h within before later e =
-    subst (λ n. ArePart columns bands r (drop n bands)) e (record {
-      points = λ p inside. refl;
-      ordered = bands_ordered columns bands h;
-      values = h.values;
-      later = after_tail r.top bands (bands_ordered columns bands h) later;
-    })
-part_from columns bands r (suc n) k h within before later e =
-    let same : n ≡ k = omega (arith, e) in
-    subst (λ n. ArePart columns bands r (drop n bands)) same (record {
-      points = λ p inside. ap (λ c. has_column c p.x) (value_at-drop columns [] [] bands n p.y (omega (arith, within))
-          (EndsBefore-more (r.top +ℤ pos 1) (p.y +ℤ pos 1) (take (suc n) bands) (omega (arith, ints, (row_of p r inside).from_top)) before));
-      ordered = ordered_drop bands n (bands_ordered columns bands h);
-      values = valid_drop (λ v. IsColumns (columns v)) bands n h.values;
-      later = subst (BeginsAfter r.top) (sym (drop_one bands n)) later;
-    })
-
-pub part_begins : {V : Type 0} (columns : V → Columns) (bands rest : List (Step V)) (r : Rect) (begun : ℕ) → IsBands columns bands → begun ≤ length bands →
-    EndsBefore (r.top +ℤ pos 1) (take begun bands) → BeginsAfter r.top (drop begun bands) → rest ≡ drop (begun - 1) bands → ArePart columns bands r rest
-part_begins columns bands rest r begun h within before later e =
-    subst (ArePart columns bands r) (sym e) (part_from columns bands r begun (begun - 1) h within before later refl)
-
--- columns of a row whose values before the first step have none
-same_column : (u w : Columns) (bands : Bands) (y x : ℤ) → has_column u x ≡ has_column w x →
-    has_column (value_at u bands y) x ≡ has_column (value_at w bands y) x
-same_column u w [] y x e = e
-same_column u w (c ∷ bands) y x e = either (int_lt y c.from)
-  where
-    either : (t : Bool) → has_column (cond t u (value_at c.value bands y)) x ≡ has_column (cond t w (value_at c.value bands y)) x
-    either true = e
-    either false = refl
-
-no_column : (columns : Columns) (left right x : ℤ) (b : Bool) → has_column columns x ≡ b → (HasColumnIn columns left right → ⊥) → left ≤ℤ x → x <ℤ right →
-    b ≡ false
-no_column columns left right x true e none from to = absurd (none (record { column = x; from_left = from; to_right = to; held = e }))
-no_column columns left right x false e none from to = refl
-
-begins_later : {V : Type 0} (y z : ℤ) (steps : List (Step V)) → y <ℤ z → BeginsAfter z steps → BeginsAfter y steps
-begins_later y z [] lt h = tt
-begins_later y z (s ∷ steps) lt h = omega (arith, ints, lt, h)
-
--- a band without a column there
-pub part_goes_on : {V : Type 0} (columns : V → Columns) (all : List (Step V)) (r : Rect) (b : Step V) (bands : List (Step V)) →
-    ArePart columns all r (b ∷ bands) → (HasColumnIn (columns b.value) r.left r.right → ⊥) → ArePart columns all r bands
-part_goes_on columns all r b bands h none = record {
-  points = λ p inside. h.points p inside ∙ passed p (row_of p r inside) (at_or_before p.y b.from);
-  ordered = h.ordered.1;
-  values = h.values.1;
-  later = after_tail r.top bands h.ordered.1 h.later;
-} where
-  passed : (p : Point) → IsIn p r → (p.y <ℤ b.from) ⊎ (b.from ≤ℤ p.y) →
-      has_point (lists_of columns (b ∷ bands)) p ≡ has_point (lists_of columns bands) p
-  passed p i (inl above) = ap (λ c. has_column c p.x)
-      (value_at-before [] (lists_of columns (b ∷ bands)) p.y above
-      ∙ sym (value_at-before [] (lists_of columns bands) p.y (begins_after columns p.y bands (begins_later p.y b.from bands above h.ordered.0))))
-  passed p i (inr from) = rw (ge_is p.y b.from from) (same_column (columns b.value) [] (lists_of columns bands) p.y p.x
-      (no_column (columns b.value) r.left r.right p.x (has_column (columns b.value) p.x) refl none i.from_left i.to_right))
-
--- no band is left, or the next is below
-part_is_over : {V : Type 0} (columns : V → Columns) (all bands : List (Step V)) (r : Rect) → ArePart columns all r bands →
-    ((y : ℤ) → y <ℤ r.bottom → BeginsAfter y (lists_of columns bands)) → SharesPoint (has_point (lists_of columns all)) r → ⊥
-part_is_over columns all bands r h below s =
-    false≢true (ap (λ c. has_column c s.point.x)
-    (sym (value_at-before [] (lists_of columns bands) s.point.y (below s.point.y (row_of s.point r s.inside).to_bottom)))
-    ∙ sym (h.points s.point s.inside) ∙ s.held)
-
-pub no_points : (set : Point → Bool) (r : Rect) → (¬ HasPoints r) → SharesPoint set r → ⊥
-no_points set r none s =
-    let i = row_of s.point r s.inside in
-    none (record { across = omega (arith, ints, i.from_left, i.to_right); down = omega (arith, ints, i.from_top, i.to_bottom) })
-
-pub shares_same : (f g : Point → Bool) (r : Rect) → ((p : Point) → f p ≡ g p) → SharesPoint f r → SharesPoint g r
-shares_same f g r same s = record { point = s.point; held = sym (same s.point) ∙ s.held; inside = s.inside }
-
-pub part_is_done : {V : Type 0} (columns : V → Columns) (all bands : List (Step V)) (r : Rect) → ArePart columns all r bands → length bands < 1 →
-    SharesPoint (has_point (lists_of columns all)) r → ⊥
-part_is_done columns all [] r h few s = part_is_over columns all [] r h (λ y lt. tt) s
-part_is_done columns all (b ∷ bands) r h few s = absurd (omega (arith, few))
-
-pub part_is_below : {V : Type 0} (columns : V → Columns) (all : List (Step V)) (r : Rect) (b : Step V) (bands : List (Step V)) →
-    ArePart columns all r (b ∷ bands) → r.bottom ≤ℤ b.from → SharesPoint (has_point (lists_of columns all)) r → ⊥
-part_is_below columns all r b bands h below s = part_is_over columns all (b ∷ bands) r h (λ y lt. omega (arith, ints, lt, below)) s
-
--- a band with a column there
-in_row : {V : Type 0} (columns : V → Columns) (all : List (Step V)) (r : Rect) (b : Step V) (bands : List (Step V)) (y : ℤ) →
-    ArePart columns all r (b ∷ bands) →
-    HasColumnIn (columns b.value) r.left r.right → b.from ≤ℤ y → r.top ≤ℤ y → y <ℤ r.bottom → BeginsAfter y (lists_of columns bands) →
-    SharesPoint (has_point (lists_of columns all)) r
-in_row columns all r b bands y h c begun from to later =
-    let p : Point = record { x = c.column; y = y } in
-    let inside : IsTrue (is_in p r) = (is_in-IsIn p r).1 (record { from_left = c.from_left; to_right = c.to_right; from_top = from; to_bottom = to }) in
+-- a column of the band that the rectangle has is one of a point
+pub band_meets : (rects : List Rect) (rect : Rect) (rest : List Rect) (top : ℤ) (n : ℕ) → IsLeft rects rect rest → IsFirstBand rest top n →
+    HasColumnIn (take n rest) rect.left rect.right → rect.top <ℤ rect.bottom → top <ℤ rect.bottom → SharesPoint (λ p. is_in_some p rects) rect
+band_meets rects rect rest top n h b has down above =
+    let p : Point = point_from has.place (int_max rect.top top) in
+    let inside : IsTrue (is_in p rect) = (is_in-IsIn p rect).1 (record {
+      from_left = has.from;
+      to_right = has.before;
+      from_top = omega (arith, ints, clamps);
+      to_bottom = omega (arith, ints, clamps, down, above);
+    }) in
+    let begun = All-weaker (λ r. r.top ≤ℤ top) (λ r. r.top ≤ℤ int_max rect.top top) (λ r k. omega (arith, ints, clamps, k)) (take n rest) b.begun in
+    let first = All-take (λ r. rect.top <ℤ r.bottom) n rest h.ahead in
+    let second = ends_after n rest top b in
     record {
       point = p;
-      held = h.points p inside
-          ∙ rw (ge_is y b.from begun) (ap (λ u. has_column u c.column) (value_at-before (columns b.value) (lists_of columns bands) y later) ∙ c.held);
+      held = sym (h.points p inside) ∙ parts_points p rest n
+          ∙ or_true (is_in_some p (take n rest)) (is_in_some p (drop n rest))
+          (band_points p (take n rest) begun (λ k d lt. omega (arith, ints, clamps, first k d lt, second k d lt)) ∙ has.held);
       inside = inside;
     }
 
-pub part_meets : {V : Type 0} (columns : V → Columns) (all : List (Step V)) (r : Rect) (b : Step V) (bands : List (Step V)) →
-    ArePart columns all r (b ∷ bands) →
-    HasColumnIn (columns b.value) r.left r.right → r.top <ℤ r.bottom → b.from <ℤ r.bottom → SharesPoint (has_point (lists_of columns all)) r
-part_meets columns all r b bands h c down above = elim (at_or_before b.from r.top) [
-  | inl lt ↦ in_row columns all r b bands r.top h c (omega (arith, ints, lt)) (omega (arith, ints)) down (begins_after columns r.top bands h.later)
-  | inr le ↦ in_row columns all r b bands b.from h c (omega (arith, ints)) le above (begins_after columns b.from bands h.ordered.0)
-]
+-- a point of a band is in one of its columns
+
+or_false_first : (a b : Bool) → (a || b) ≡ false → a ≡ false
+or_false_first true b e = absurd (false≢true (sym e))
+or_false_first false b e = refl
+
+or_false_second : (a b : Bool) → (a || b) ≡ false → b ≡ false
+or_false_second true b e = absurd (false≢true (sym e))
+or_false_second false b e = e
+
+and_more : (a b c d : Bool) → (a && b) ≡ false → (a && b && c && d) ≡ false
+and_more true true c d e = absurd (false≢true (sym e))
+and_more true false c d e = refl
+and_more false b c d e = refl
+
+none_in_columns : (p : Point) (rects : List Rect) → in_columns p.x rects ≡ false → is_in_some p rects ≡ false
+none_in_columns p [] e = refl
+none_in_columns p (r ∷ rects) e =
+    let test : Bool = int_le r.left p.x && int_lt p.x r.right in
+    ap (λ b. b || is_in_some p rects)
+    (and_more (int_le r.left p.x) (int_lt p.x r.right) (int_le r.top p.y) (int_lt p.y r.bottom) (or_false_first test (in_columns p.x rects) e))
+    ∙ none_in_columns p rects (or_false_second test (in_columns p.x rects) e)
+
+outside_columns : (rect : Rect) (band : List Rect) (p : Point) (b : Bool) → (HasColumnIn band rect.left rect.right → ⊥) → IsIn p rect →
+    in_columns p.x band ≡ b → is_in_some p band ≡ false
+outside_columns rect band p true none inside e =
+    absurd (none (record { place = p.x; held = e; from = inside.from_left; before = inside.to_right }))
+outside_columns rect band p false none inside e = none_in_columns p band e
+
+-- where it has none, the bands below are left
+pub left_below : (rects : List Rect) (rect : Rect) (rest : List Rect) (n : ℕ) → IsLeft rects rect rest →
+    (HasColumnIn (take n rest) rect.left rect.right → ⊥) → IsLeft rects rect (drop n rest)
+left_below rects rect rest n h none = record {
+  order = in_order_drop n rest h.order;
+  ahead = All-drop (λ r. rect.top <ℤ r.bottom) n rest h.ahead;
+  points = λ p t. sym (parts_points p rest n
+      ∙ ap (λ b. b || is_in_some p (drop n rest)) (outside_columns rect (take n rest) p (in_columns p.x (take n rest)) none ((is_in-IsIn p rect).0 t) refl))
+      ∙ h.points p t;
+}
+
+-- each band has a rectangle
+pub some_begun : (rest : List Rect) (d : Rect) (n : ℕ) → 1 ≤ length rest → All (λ r. (get_or rest 0 d).top <ℤ r.top) (drop n rest) → 0 < n
+some_begun [] d n long later = absurd (omega (arith, long))
+some_begun (r ∷ rest) d zero long later = absurd (omega (arith, ints, All-head (λ q. r.top <ℤ q.top) r rest later))
+some_begun (r ∷ rest) d (suc n) long later = omega arith

@@ -4,7 +4,7 @@ use Rattle.std.proofs.lemmas.Int.{ints}
 use Rattle.std.proofs.lemmas.List.Kept.{AllPairs-cons}
 use Rattle.std.proofs.lemmas.List.Elements.{All-nil, All-cons, All-append, All-weaker, All-head, All-tail}
 use Rattle.geom_base.specs.declared.rect.Rect.{Rect}
-use Rattle.region.specs.declared.step.Step.{Step}
+use Rattle.region.specs.Steps.{Step}
 use Rattle.region.specs.Steps.{BeginsAfter, AllValid, Same, IsReduced}
 use Rattle.region.specs.InnerSteps.{IsOrdered}
 use Rattle.region.specs.Columns.{column, HasColumns}

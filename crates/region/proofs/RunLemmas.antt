@@ -1,11 +1,12 @@
 -- Runs put one after another.
 use Rattle.std.proofs.Common.{◌≡◌, ◌∙◌, ℤ, ◌+ℤ◌, ◌<ℤ◌, ◌≤ℤ◌, pos, List, [], ◌∷◌, ◌++◌, Bool, true, false, refl, ap, sym}
-use Rattle.std.proofs.Common.{subst, arith, int_lt, cond, ◌&&◌, ◌||◌, inl, inr, FitsSigned, w32}
+use Rattle.std.proofs.Common.{subst, arith, int_lt, int_le, cond, ◌&&◌, ◌||◌, inl, inr, FitsSigned, w32}
 use Rattle.std.proofs.lemmas.Int.{ints}
 use Rattle.std.proofs.Math.Path.{fun_ext}
-use Rattle.region.specs.declared.step.Step.{Step}
+use Rattle.region.specs.Steps.{Step}
 use Rattle.region.specs.Steps.{value_at, final_value, BeginsAfter, Same, IsReduced}
-use Rattle.region.specs.InnerSteps.{EndsBefore, CanPush}
+use Rattle.region.specs.InnerSteps.{EndsBefore}
+use Rattle.region.specs.InnerSweep.{CanTake, IsPut}
 use Rattle.region.specs.InnerRuns.{seen, sees, nowhere, AreReduced, AreRuns, AreEnded, with_run}
 use Rattle.region.proofs.StepLemmas.{lt_is, ge_is, at_or_before, final_value-push, EndsBefore-push, EndsBefore-later}
 use Rattle.region.proofs.StepLemmas.{AllValid-push, AllFit-push, IsReduced-push, IsOrdered-push}
@@ -59,30 +60,30 @@ no_runs holds valid end set none = record {
     either false x = refl
 
 -- a step can be put where the last run ends
-pub can_push_at : {V : Type 0} (holds : V → ℤ → Bool) (valid : V → Type 0) (end : ℤ) (set : ℤ → ℤ → Bool) (steps : List (Step V)) (value : V) →
-    AreRuns holds valid end set steps → FitsSigned w32 end → valid value → CanPush valid steps (record { from = end; value = value })
-can_push_at holds valid end set steps value h fits v = record {
-  ordered = IsOrdered-push steps (record { from = end; value = value }) h.steps_reduced.ordered h.ends;
-  values = AllValid-push valid steps (record { from = end; value = value }) h.steps_reduced.values v;
-  fits = AllFit-push steps (record { from = end; value = value }) h.steps_reduced.fits fits;
+pub runs_take : {V : Type 0} (holds : V → ℤ → Bool) (valid : V → Type 0) (end : ℤ) (set : ℤ → ℤ → Bool) (steps : List (Step V)) →
+    AreRuns holds valid end set steps → CanTake valid end steps
+runs_take holds valid end set steps h = record {
+  ordered = h.steps_reduced.ordered;
+  values = h.steps_reduced.values;
+  fits = h.steps_reduced.fits;
+  before = h.ends;
 }
 
 pushed_reduced : {V : Type 0} (holds : V → ℤ → Bool) (valid : V → Type 0) (end : ℤ) (set : ℤ → ℤ → Bool) (steps : List (Step V)) (nothing value : V) →
     AreRuns holds valid end set steps → FitsSigned w32 end → valid value → ((x : ℤ) → holds nothing x ≡ false) →
     (¬ Same holds value (final_value nothing steps)) → AreReduced holds valid (steps ++ record { from = end; value = value } ∷ [])
 pushed_reduced holds valid end set steps nothing value h fits v none turn =
-    let can = can_push_at holds valid end set steps value h fits v in
     record {
       reduced = subst (IsReduced sees nowhere) (sym (seen-push holds steps end value))
           (IsReduced-push sees nowhere (seen holds steps) (record { from = end; value = holds value }) h.steps_reduced.reduced
           (seen-ends holds end steps h.ends) (λ same. turn (λ x. same x ∙ ap (λ f. f x) (final_of_runs holds nothing steps none))));
-      ordered = can.ordered;
-      values = can.values;
-      fits = can.fits;
+      ordered = IsOrdered-push steps (record { from = end; value = value }) h.steps_reduced.ordered h.ends;
+      values = AllValid-push valid steps (record { from = end; value = value }) h.steps_reduced.values v;
+      fits = AllFit-push steps (record { from = end; value = value }) h.steps_reduced.fits fits;
     }
 
 -- the last run was ended already
-pub ended_before : {V : Type 0} (holds : V → ℤ → Bool) (valid : V → Type 0) (end : ℤ) (set : ℤ → ℤ → Bool) (steps : List (Step V)) (nothing : V) →
+ended_before : {V : Type 0} (holds : V → ℤ → Bool) (valid : V → Type 0) (end : ℤ) (set : ℤ → ℤ → Bool) (steps : List (Step V)) (nothing : V) →
     AreRuns holds valid end set steps → ((x : ℤ) → holds nothing x ≡ false) → Same holds nothing (final_value nothing steps) →
     AreEnded holds valid end set steps
 ended_before holds valid end set steps nothing h none same =
@@ -104,20 +105,31 @@ ended_before holds valid end set steps nothing h none same =
     ]
 
 -- the last run is ended
-pub ended_here : {V : Type 0} (holds : V → ℤ → Bool) (valid : V → Type 0) (end : ℤ) (set : ℤ → ℤ → Bool) (steps : List (Step V)) (nothing : V) →
-    AreRuns holds valid end set steps → FitsSigned w32 end → valid nothing → ((x : ℤ) → holds nothing x ≡ false) →
-    (¬ Same holds nothing (final_value nothing steps)) → AreEnded holds valid end set (steps ++ record { from = end; value = nothing } ∷ [])
-ended_here holds valid end set steps nothing h fits v none turn =
-    let same : holds nothing ≡ nowhere = fun_ext {f = holds nothing} {g = nowhere} none in
-    let last : seen holds (steps ++ record { from = end; value = nothing } ∷ []) ≡ seen holds steps ++ record { from = end; value = nowhere } ∷ [] =
-    seen-push holds steps end nothing ∙ ap (λ f. seen holds steps ++ record { from = end; value = f } ∷ []) same in
+ended_here : {V : Type 0} (holds : V → ℤ → Bool) (valid : V → Type 0) (end : ℤ) (set : ℤ → ℤ → Bool) (steps : List (Step V)) (nothing value : V) →
+    AreRuns holds valid end set steps → FitsSigned w32 end → valid value → ((x : ℤ) → holds nothing x ≡ false) → ((x : ℤ) → holds value x ≡ false) →
+    (¬ Same holds value (final_value nothing steps)) → AreEnded holds valid end set (steps ++ record { from = end; value = value } ∷ [])
+ended_here holds valid end set steps nothing value h fits v none bare turn =
+    let same : holds value ≡ nowhere = fun_ext {f = holds value} {g = nowhere} bare in
+    let last : seen holds (steps ++ record { from = end; value = value } ∷ []) ≡ seen holds steps ++ record { from = end; value = nowhere } ∷ [] =
+    seen-push holds steps end value ∙ ap (λ f. seen holds steps ++ record { from = end; value = f } ∷ []) same in
     record {
       points = λ x y. ap (λ l. value_at nowhere l y x) last ∙ h.points x y;
-      steps_reduced = pushed_reduced holds valid end set steps nothing nothing h fits v none turn;
-      ends = EndsBefore-push (end +ℤ pos 1) steps (record { from = end; value = nothing })
+      steps_reduced = pushed_reduced holds valid end set steps nothing value h fits v none turn;
+      ends = EndsBefore-push (end +ℤ pos 1) steps (record { from = end; value = value })
           (EndsBefore-later end (end +ℤ pos 1) steps h.ends (omega (arith, ints))) (omega (arith, ints));
       final = ap (final_value nowhere) last ∙ final_value-push nowhere (seen holds steps) (record { from = end; value = nowhere });
     }
+
+-- no columns were put where the last run ends
+pub put_end : {V : Type 0} (holds : V → ℤ → Bool) (valid : V → Type 0) (nothing : V) (columns : ℤ → Bool) (end : ℤ) (set : ℤ → ℤ → Bool)
+    (steps more : List (Step V)) → AreRuns holds valid end set steps → FitsSigned w32 end → ((x : ℤ) → holds nothing x ≡ false) →
+    ((x : ℤ) → columns x ≡ false) → IsPut holds valid nothing columns end steps more → AreEnded holds valid end set more
+put_end holds valid nothing columns end set steps more h fits none bare p = elim p.put [
+  | inl kept ↦ subst (AreEnded holds valid end set) (sym kept.1) (ended_before holds valid end set steps nothing h none
+      (λ x. none x ∙ sym (p.holds_columns x ∙ bare x) ∙ kept.0 x))
+  | inr added ↦ subst (AreEnded holds valid end set) (sym added.1) (ended_here holds valid end set steps nothing p.value h fits p.is_valid none
+      (λ x. p.holds_columns x ∙ bare x) added.0)
+]
 
 -- ended runs are runs until any later place
 pub runs_until : {V : Type 0} (holds : V → ℤ → Bool) (valid : V → Type 0) (end next : ℤ) (set : ℤ → ℤ → Bool) (steps : List (Step V)) →
@@ -161,7 +173,7 @@ run_points holds valid from to set steps more value h wide ends values x y =
     ∙ ap (λ b. b || (in_rows from to y && holds value x)) (sym before)
 
 -- a run with the columns of the last one goes on
-pub run_goes_on : {V : Type 0} (holds : V → ℤ → Bool) (valid : V → Type 0) (from to : ℤ) (set : ℤ → ℤ → Bool) (steps : List (Step V)) (nothing value : V) →
+run_goes_on : {V : Type 0} (holds : V → ℤ → Bool) (valid : V → Type 0) (from to : ℤ) (set : ℤ → ℤ → Bool) (steps : List (Step V)) (nothing value : V) →
     AreRuns holds valid from set steps → from <ℤ to → ((x : ℤ) → holds nothing x ≡ false) → Same holds value (final_value nothing steps) →
     AreRuns holds valid to (with_run set from to (holds value)) steps
 run_goes_on holds valid from to set steps nothing value h wide none same = record {
@@ -181,7 +193,7 @@ run_goes_on holds valid from to set steps nothing value h wide none same = recor
     ]
 
 -- a run with other columns begins
-pub run_begins : {V : Type 0} (holds : V → ℤ → Bool) (valid : V → Type 0) (from to : ℤ) (set : ℤ → ℤ → Bool) (steps : List (Step V)) (nothing value : V) →
+run_begins : {V : Type 0} (holds : V → ℤ → Bool) (valid : V → Type 0) (from to : ℤ) (set : ℤ → ℤ → Bool) (steps : List (Step V)) (nothing value : V) →
     AreRuns holds valid from set steps → from <ℤ to → FitsSigned w32 from → valid value → ((x : ℤ) → holds nothing x ≡ false) →
     (¬ Same holds value (final_value nothing steps)) →
     AreRuns holds valid to (with_run set from to (holds value)) (steps ++ record { from = from; value = value } ∷ [])
@@ -200,6 +212,19 @@ run_begins holds valid from to set steps nothing value h wide fits v none turn =
 pub runs_same : {V : Type 0} (holds : V → ℤ → Bool) (valid : V → Type 0) (end : ℤ) (f g : ℤ → ℤ → Bool) (steps : List (Step V)) →
     ((y x : ℤ) → f y x ≡ g y x) → AreRuns holds valid end f steps → AreRuns holds valid end g steps
 runs_same holds valid end f g steps same h = record { points = λ x y. h.points x y ∙ same y x; steps_reduced = h.steps_reduced; ends = h.ends }
+
+-- columns were put where the last run ends
+pub put_run : {V : Type 0} (holds : V → ℤ → Bool) (valid : V → Type 0) (nothing : V) (columns : ℤ → Bool) (from to : ℤ) (set : ℤ → ℤ → Bool)
+    (steps more : List (Step V)) → AreRuns holds valid from set steps → from <ℤ to → FitsSigned w32 from → ((x : ℤ) → holds nothing x ≡ false) →
+    IsPut holds valid nothing columns from steps more → AreRuns holds valid to (with_run set from to columns) more
+put_run holds valid nothing columns from to set steps more h wide fits none p =
+    runs_same holds valid to (with_run set from to (holds p.value)) (with_run set from to columns) more
+    (λ y x. ap (λ b. set y x || ((int_le from y && int_lt y to) && b)) (p.holds_columns x)) (elim p.put [
+      | inl kept ↦ subst (AreRuns holds valid to (with_run set from to (holds p.value))) (sym kept.1)
+          (run_goes_on holds valid from to set steps nothing p.value h wide none kept.0)
+      | inr added ↦ subst (AreRuns holds valid to (with_run set from to (holds p.value))) (sym added.1)
+          (run_begins holds valid from to set steps nothing p.value h wide fits p.is_valid none added.0)
+    ])
 
 -- what is seen of steps is what they are
 

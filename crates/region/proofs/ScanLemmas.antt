@@ -185,10 +185,6 @@ pub first_of : (rects : List Rect) (d : Rect) → 1 ≤ length rects → rects �
 first_of [] d h = absurd (omega (arith, h))
 first_of (r ∷ rects) d h = refl
 
-pub later_none : (p : ℤ) (rects : List Rect) → length rects < 1 → BeginBelow p rects
-later_none p [] h = tt
-later_none p (r ∷ rects) h = absurd (omega (arith, h))
-
 pub later_first : (p : ℤ) (rects : List Rect) (d : Rect) → 1 ≤ length rects → p <ℤ (get_or rects zero d).top → BeginBelow (p +ℤ pos 1) rects
 later_first p [] d n h = tt
 later_first p (r ∷ rects) d n h = omega (arith, ints, h)

@@ -10,17 +10,18 @@ use Rattle.geom_base.specs.Tests.{same_tests}
 use Rattle.geom_base.specs.declared.point.Point.{Point}
 use Rattle.geom_base.specs.declared.rect.Rect.{Rect}
 use Rattle.geom_base.specs.Points.{is_in_some, no_rect}
-use Rattle.region.specs.declared.step.Step.{Step}
+use Rattle.region.specs.Steps.{Step}
 use Rattle.region.specs.declared.cover.Cover.{Cover}
 use Rattle.region.specs.declared.cover.Cover.TheVariants.{Cell, Pair'}
 use Rattle.region.specs.Steps.{final_value, AllValid, IsReduced}
 use Rattle.region.specs.InnerSteps.{EndsBefore, AllFit}
 use Rattle.region.specs.Columns.{HasColumns, Columns, has_column}
-use Rattle.region.specs.InnerColumns.{IsColumns, columns_of}
+use Rattle.region.specs.InnerColumns.{IsColumns}
 use Rattle.region.specs.Band.{Bands, has_point}
-use Rattle.region.specs.InnerBand.{lists_of}
-use Rattle.region.specs.InnerSweep.{before_or}
-use Rattle.region.specs.InnerBandList.{IsCounted, AreCanonical}
+use Rattle.region.specs.InnerSweep.{CanTake}
+use Rattle.region.specs.InnerScan.{before_or}
+use Rattle.region.specs.Limits.{most_rects}
+use Rattle.region.specs.InnerBandList.{run_count, rect_count, IsKept, IsCounted, IsBuilt, AreCanonical}
 use Rattle.region.specs.InnerCover.{strip_of, covers, filled_in, columns_in, IsCover, IsShaped, SameStrip, SameShape, IsMoved}
 use Rattle.region.specs.InnerEdges.{IsOver}
 use Rattle.region.specs.InnerScan.{IsSolid, AllRects, BeginBelow, BeginIn, AreDownward, IsArranged, HasBothEdges}
@@ -29,10 +30,11 @@ use Rattle.region.specs.declared.band_list.BandList.{BandList}
 use Rattle.region.specs.declared.strip.Strip.{Strip}
 use Rattle.region.proofs.StepLemmas.{at_or_before, final_value-push, EndsBefore-push, EndsBefore-later, AllValid-push}
 use Rattle.region.proofs.StepLemmas.{AllFit-push, IsReduced-push, IsOrdered-push, reduced_is_ordered, final_is_valid}
-use Rattle.region.proofs.SweepLemmas.{before_or-same, before_or-push, before_or-end, by_place}
+use Rattle.region.proofs.BeforeLemmas.{before_or-same, before_or-push, before_or-end, by_place}
 use Rattle.region.proofs.UniqueLemmas.{same_columns}
 use Rattle.region.proofs.RegionLemmas.{no_columns, held_no_columns}
 use Rattle.region.proofs.CountLemmas.{count_fits, rect_count-push}
+use Rattle.region.proofs.KeptLemmas.{kept_is_counted}
 use Rattle.region.proofs.CoverLemmas.{or_none, same_strip, covers_above, grown, IsGrown}
 use Rattle.region.proofs.CoverTurnLemmas.{told, seen_later, same_shape}
 use Rattle.region.proofs.CoverStepLemmas.{columns_are, columns_hold, fits_between, told_runs}
@@ -221,19 +223,28 @@ turned_new rects z p t more new rest others bands s t1 differ =
     (AllFit-push bands b s.fits (turned_fits rects z p t more new rest others bands s t1))
     (EndsBefore-push (p +ℤ pos 1) bands b (EndsBefore-later p (p +ℤ pos 1) bands ends (omega (arith, ints))) (omega (arith, ints)))
 
+-- a band can be put after the others
+turned_takes : (rects : List Rect) (z p : ℤ) (t more new : Cover) (rest others : List Rect) (bands : Bands) → IsScanned rects z t rest bands →
+    IsTurned z p t more new rest others → CanTake IsColumns p bands
+turned_takes rects z p t more new rest others bands s t1 = record {
+  ordered = reduced_is_ordered has_column [] bands s.reduced;
+  values = s.values;
+  fits = s.fits;
+  before = ends_before_next z p (strip_of t).steady rest bands s.ends s.before s.steady t1.next;
+}
+
 -- a number of 64 bits holds the count of the bands with one more
-pub room_after : {V : Type 0} (columns : V → Columns) (rects : List Rect) (z p : ℤ) (t more new : Cover) (rest others : List Rect) (bands : Bands)
-    (kept : List (Step V)) (count : ℕ) → IsScanned rects z t rest bands → IsTurned z p t more new rest others →
-    IsCounted columns bands kept count → count + (strip_of new).row.runs < 2 ^ 64
-room_after columns rects z p t more new rest others bands kept count s t1 k =
+room_after : (rects : List Rect) (z p : ℤ) (t more new : Cover) (rest others : List Rect) (bands : Bands) (count : ℕ) → IsScanned rects z t rest bands →
+    IsTurned z p t more new rest others → count ≡ rect_count bands → count + (strip_of new).row.runs < 2 ^ 64
+room_after rects z p t more new rest others bands count s t1 k =
     let b : Step Columns = record { from = p; value = columns_in new p } in
-    let ends : EndsBefore p bands = ends_before_next z p (strip_of t).steady rest bands s.ends s.before s.steady t1.next in
-    let n = count_fits (λ c. c) (bands ++ b ∷ []) (IsOrdered-push bands b (reduced_is_ordered has_column [] bands s.reduced) ends)
+    let take = turned_takes rects z p t more new rest others bands s t1 in
+    let n = count_fits (bands ++ b ∷ []) (IsOrdered-push bands b take.ordered take.before)
     (AllFit-push bands b s.fits (turned_fits rects z p t more new rest others bands s t1))
     (AllValid-push IsColumns bands b s.values (turned_columns rects z p t more new rest others bands s t1)) in
-    let m = rect_count-push (λ c. c) bands b in
+    let m = rect_count-push bands b in
     let r = told_runs p new (strip_of new) t1.moved.cover t1.moved.steady refl in
-    omega (arith, n, m, r, k.number)
+    omega (arith, n, m, r, k)
 
 none_below : (t : Cover) → IsShaped t → (z y x : ℤ) → z ≤ℤ y → covers t z x ≡ false → covers t y x ≡ false
 none_below t h z y x k e = elim (cases_Bool (covers t y x)) [ inl c ↦ absurd (false≢true (sym e ∙ covers_above t h z y x k c)) | inr c ↦ c ]
@@ -267,6 +278,15 @@ scanned_all rects z t rest bands s e k =
           ∙ before_or-same has_column [] bands (λ y x. has_column (final_value [] bands) x) (ahead z t rest) (λ y x. sym (below y x)) p.y p.x
           ∙ s.points p.x p.y,
     )
+
+-- a band more, with which they are too many
+pub counted_past : (bands : Bands) (old new : BandList) (runs : ℕ) (b : Step Columns) → IsCounted old bands → runs ≡ run_count b.value →
+    new.count ≡ old.count + runs → old.most < old.count + runs → new.most ≡ old.most → new.ended ≡ 0 → IsCounted new (bands ++ b ∷ [])
+counted_past bands old new runs b k r count many most ended = record {
+  number = let m = rect_count-push bands b in omega (arith, m, r, count, k.number);
+  within = omega (arith, ended);
+  few = λ few. absurd (omega (arith, few, many, count, most));
+}
 
 -- before the first turn
 pub scanned_none : (rects : List Rect) (edges : List ℤ) (r : Rect) (others : List Rect) (t : Cover) → rects ≡ r ∷ others → All IsSolid rects →
@@ -374,14 +394,15 @@ into_same rects z p t more new rest others list a b c i t1 ea eb ec f g =
       bands = i.bands;
       scanned = turned_same rects z p t more new rest others i.bands s t1 (sym first ∙ f ∙ second) (sym second ∙ g ∙ third);
       counted = i.counted;
+      limit = i.limit;
     }
 
 pub into_new : (rects : List Rect) (z p : ℤ) (t more new : Cover) (rest others : List Rect) (list next : BandList) (a b c : Strip) →
     IsScannedInto rects z t rest list → IsTurned z p t more new rest others → a ≡ strip_of t → b ≡ strip_of more → c ≡ strip_of new →
     ((a.row.filled ≡ b.row.filled) × (b.row.filled ≡ c.row.filled) → ⊥) →
-    ((lists : Bands) → IsCounted columns_of lists list.bands.items list.count →
-    IsCounted columns_of (lists ++ record { from = p; value = columns_in new p } ∷ []) next.bands.items next.count) → IsScannedInto rects p new others next
-into_new rects z p t more new rest others list next a b c i t1 ea eb ec differ count =
+    ((lists : Bands) → IsCounted list lists → CanTake IsColumns p lists →
+    IsCounted next (lists ++ record { from = p; value = columns_in new p } ∷ [])) → next.most ≡ list.most → IsScannedInto rects p new others next
+into_new rects z p t more new rest others list next a b c i t1 ea eb ec differ count same =
     let s = i.scanned in
     let begun = t1.begun.adding.begun in
     let first = filled_as z t a s.cover s.steady ea in
@@ -390,13 +411,22 @@ into_new rects z p t more new rest others list next a b c i t1 ea eb ec differ c
     record {
       bands = i.bands ++ record { from = p; value = columns_in new p } ∷ [];
       scanned = turned_new rects z p t more new rest others i.bands s t1 (λ e. differ (first ∙ e.0 ∙ sym second, second ∙ e.1 ∙ sym third));
-      counted = count i.bands i.counted;
+      counted = count i.bands i.counted (turned_takes rects z p t more new rest others i.bands s t1);
+      limit = same ∙ i.limit;
     }
 
 pub into_room : (rects : List Rect) (z p : ℤ) (t more new : Cover) (rest others : List Rect) (list : BandList) → IsScannedInto rects z t rest list →
     IsTurned z p t more new rest others → list.count + (strip_of new).row.runs < 2 ^ 64
-into_room rects z p t more new rest others list i t1 = room_after columns_of rects z p t more new rest others i.bands list.bands.items list.count i.scanned t1
-    i.counted
+into_room rects z p t more new rest others list i t1 = room_after rects z p t more new rest others i.bands list.count i.scanned t1 i.counted.number
+
+pub into_columns : (rects : List Rect) (z p : ℤ) (t more new : Cover) (rest others : List Rect) (list : BandList) → IsScannedInto rects z t rest list →
+    IsTurned z p t more new rest others → IsColumns (columns_in new p)
+into_columns rects z p t more new rest others list i t1 = turned_columns rects z p t more new rest others i.bands i.scanned t1
+
+pub into_counted : (rects : List Rect) (z p : ℤ) (t more new : Cover) (rest others : List Rect) (list : BandList) → IsScannedInto rects z t rest list →
+    IsTurned z p t more new rest others → (lists : Bands) × IsCounted list lists × CanTake IsColumns p lists
+into_counted rects z p t more new rest others list i t1 =
+    (i.bands, i.counted, turned_takes rects z p t more new rest others i.bands i.scanned t1)
 
 pub into_falls : (rects : List Rect) (z p : ℤ) (t more new : Cover) (rest others : List Rect) (list : BandList) → IsScannedInto rects z t rest list →
     IsTurned z p t more new rest others → length others + rows_below p < length rest + rows_below z
@@ -409,39 +439,28 @@ into_seen rects z p t more rest others list s i e n b =
     record { shaped = b.adding.begun.cover.shaped; seen = seen_later z p more k b.adding.begun.cover.seen }
 
 pub into_none : (rects sorted : List Rect) (edges : List ℤ) (t : Cover) (list : BandList) (z : ℤ) → 1 ≤ length sorted → z ≡ (get_or sorted 0 no_rect).top →
-    IsArranged rects sorted → IsOver edges t → All (HasBothEdges edges) sorted → list.bands.items ≡ [] → list.count ≡ 0 →
+    IsArranged rects sorted → IsOver edges t → All (HasBothEdges edges) sorted → IsKept list [] → list.most ≡ most_rects →
     IsScannedInto rects z t sorted list
-into_none rects sorted edges t list z n ez a o both items count =
+into_none rects sorted edges t list z n ez a o both kept most =
     let e = first_of sorted no_rect n in
     record {
       bands = [];
       scanned = scanned_for sorted rects z t sorted [] a.points
           (subst (λ u. IsScanned sorted u t sorted []) (sym ez)
           (scanned_none sorted edges (get_or sorted 0 no_rect) (drop 1 sorted) t e a.solid a.downward o both));
-      counted = record { number = count; all = λ few. ap (lists_of columns_of) items };
+      counted = kept_is_counted list [] kept;
+      limit = most;
     }
 
 pub into_all : (rects : List Rect) (z : ℤ) (t : Cover) (rest : List Rect) (list : BandList) (s : Strip) → IsScannedInto rects z t rest list → s ≡ strip_of t →
     rest ≡ [] → s.steady ≡ pos 2147483647 →
-    (bands : Bands) × AreCanonical bands × ((p : Point) → has_point bands p ≡ is_in_some p rects) × IsCounted columns_of bands list.bands.items list.count
+    IsBuilt most_rects (λ p. is_in_some p rects) list
 into_all rects z t rest list s i e none last =
-    let all = scanned_all rects z t rest i.bands i.scanned none (ap (λ u. u.steady) (sym e) ∙ last) in (i.bands, all.0, all.1, i.counted)
+    let all = scanned_all rects z t rest i.bands i.scanned none (ap (λ u. u.steady) (sym e) ∙ last) in
+    record { bands = i.bands; counted = i.counted; limit = i.limit; canonical = all.0; points = all.1 }
 
 pub first_edges : (rects sorted : List Rect) (edges : List ℤ) → 1 ≤ length sorted → IsArranged rects sorted → All (HasBothEdges edges) sorted → 2 ≤ length edges
 first_edges rects sorted edges n a both =
     let solid : IsSolid (get_or sorted 0 no_rect) = All-get_or IsSolid sorted 0 no_rect (omega (arith, n)) a.solid in
     let here : HasBothEdges edges (get_or sorted 0 no_rect) = All-get_or (HasBothEdges edges) sorted 0 no_rect (omega (arith, n)) both in
     two_edges edges (get_or sorted 0 no_rect).left (get_or sorted 0 no_rect).right solid.points.across here.left here.right
-
-none_in : (rects : List Rect) → length rects < 1 → (p : Point) → is_in_some p rects ≡ false
-none_in [] n p = refl
-none_in (r ∷ rects) n p = absurd (omega (arith, n))
-
-pub nothing_scanned : (rects sorted : List Rect) (list : BandList) → length sorted < 1 → IsArranged rects sorted → list.bands.items ≡ [] → list.count ≡ 0 →
-    (bands : Bands) × AreCanonical bands × ((p : Point) → has_point bands p ≡ is_in_some p rects) × IsCounted columns_of bands list.bands.items list.count
-nothing_scanned rects sorted list n a items count = (
-  [],
-  record { canonical = record { reduced = tt; values = tt; ends = refl }; values = tt },
-  (λ p. sym (none_in sorted n p) ∙ a.points p),
-  record { number = count; all = λ few. ap (lists_of columns_of) items },
-)

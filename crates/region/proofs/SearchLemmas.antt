@@ -1,71 +1,99 @@
--- The steps before a place and after it.
-use Rattle.std.proofs.Common.{◌≡◌, ℕ, ◌<◌, ◌≤◌, zero, suc, ℤ, ◌+ℤ◌, ◌<ℤ◌, ◌≤ℤ◌, pos, List, [], ◌∷◌, ◌++◌, take}
-use Rattle.std.proofs.Common.{drop, length, get_or, true, false, refl, arith, int_le}
+-- Rectangles in order before a place and after it.
+use Rattle.std.proofs.Common.{◌≡◌, ◌∙◌, ℕ, ◌<◌, ◌≤◌, zero, suc, ℤ, ◌<ℤ◌, ◌≤ℤ◌, List, [], ◌∷◌, take, drop, length, get_or, ◌⊎◌, inl, inr}
+use Rattle.std.proofs.Common.{true, false, ap, sym, subst, arith, int_le}
+use Rattle.std.proofs.Math.Nat.{eq-or-lt_of_le}
+use Rattle.std.specs.List.{All, AllPairs}
 use Rattle.std.specs.List.Sorted.{IsPartitionPoint, IsPartitionedBy}
 use Rattle.std.proofs.lemmas.Int.{ints}
-use Rattle.region.specs.declared.step.Step.{Step}
-use Rattle.region.specs.Steps.{value_at, final_value, BeginsAfter}
-use Rattle.region.specs.InnerSteps.{EndsBefore, IsOrdered}
-use Rattle.region.proofs.StepLemmas.{ge_is}
+use Rattle.std.proofs.lemmas.List.{get_or-take, length-take, length-take-le}
+use Rattle.std.proofs.lemmas.List.Kept.{AllPairs-cons}
+use Rattle.std.proofs.lemmas.List.Elements.{All-cons, All-take, All-weaker}
+use Rattle.geom_base.specs.declared.rect.Rect.{Rect}
+use Rattle.geom_base.specs.Points.{no_rect}
+use Rattle.region.specs.declared.search.Edge.{Edge}
+use Rattle.region.specs.InnerSearch.{edge_of, AreSorted}
 
--- later steps are at later places
+-- pairs of a part of a list
 
-after_all : {V : Type 0} (y : ℤ) (steps : List (Step V)) (j : ℕ) (d : Step V) → BeginsAfter y steps → IsOrdered steps → j < length steps →
-    y <ℤ (get_or steps j d).from
-after_all y [] j d b o lt = absurd (omega (arith, lt))
-after_all y (s ∷ steps) zero d b o lt = b
-after_all y (s ∷ steps) (suc j) d b o lt =
-    let later : s.from <ℤ (get_or steps j d).from = after_all s.from steps j d o.0 o.1 (omega (arith, lt)) in omega (arith, ints, later, b)
+pub pairs_head : {X : Type 0} (R : X → X → Type 0) (x : X) (xs : List X) → AllPairs R (x ∷ xs) → All (R x) xs
+pairs_head R x xs h = λ k d lt. h 0 (suc k) d (omega arith) (omega (arith, lt))
 
-rises : {V : Type 0} (steps : List (Step V)) (i j : ℕ) (d : Step V) → IsOrdered steps → i ≤ j → j < length steps →
-    (get_or steps i d).from ≤ℤ (get_or steps j d).from
-rises [] i j d o le lt = absurd (omega (arith, lt))
-rises (s ∷ steps) zero zero d o le lt = omega (arith, ints)
-rises (s ∷ steps) zero (suc j) d o le lt =
-    let later : s.from <ℤ (get_or steps j d).from = after_all s.from steps j d o.0 o.1 (omega (arith, lt)) in omega (arith, ints, later)
-rises (s ∷ steps) (suc i) zero d o le lt = absurd (omega (arith, le))
-rises (s ∷ steps) (suc i) (suc j) d o le lt = rises steps i j d o.1 (omega (arith, le)) (omega (arith, lt))
+pairs_tail : {X : Type 0} (R : X → X → Type 0) (x : X) (xs : List X) → AllPairs R (x ∷ xs) → AllPairs R xs
+pairs_tail R x xs h = λ i j d a b. h (suc i) (suc j) d (omega (arith, a)) (omega (arith, b))
+
+pub pairs_drop : {X : Type 0} (R : X → X → Type 0) (n : ℕ) (xs : List X) → AllPairs R xs → AllPairs R (drop n xs)
+pairs_drop R zero xs h = h
+pairs_drop R (suc n) [] h = h
+pairs_drop R (suc n) (x ∷ xs) h = pairs_drop R n xs (pairs_tail R x xs h)
+
+pub pairs_take : {X : Type 0} (R : X → X → Type 0) (n : ℕ) (xs : List X) → AllPairs R xs → AllPairs R (take n xs)
+pairs_take R zero xs h = λ i j d a b. absurd (omega arith)
+pairs_take R (suc n) [] h = h
+pairs_take R (suc n) (x ∷ xs) h =
+    AllPairs-cons R x (take n xs) (All-take (R x) n xs (pairs_head R x xs h)) (pairs_take R n xs (pairs_tail R x xs h))
+
+-- what a binary search asks
 
 le_below : (a b y : ℤ) → a ≤ℤ b → int_le b y ≡ true → int_le a y ≡ true
 le_below a b y h e = grind (arith, ints)
 
-begun_by : (a y : ℤ) → int_le a y ≡ true → a <ℤ (y +ℤ pos 1)
+begun_by : (a y : ℤ) → int_le a y ≡ true → a ≤ℤ y
 begun_by a y e = grind (arith, ints)
 
 not_begun_by : (a y : ℤ) → int_le a y ≡ false → y <ℤ a
 not_begun_by a y e = grind (arith, ints)
 
--- what a binary search asks
-pub steps_are_parted : {V : Type 0} (steps : List (Step V)) (y : ℤ) → IsOrdered steps → IsPartitionedBy (λ s. int_le s.from y) steps
-steps_are_parted steps y o i j d le lt e = le_below (get_or steps i d).from (get_or steps j d).from y (rises steps i j d o le lt) e
+rises : (edge : Edge) (rects : List Rect) (i j : ℕ) (d : Rect) → AreSorted edge rects → (i ≡ j) ⊎ (i < j) → j < length rects →
+    edge_of edge (get_or rects i d) ≤ℤ edge_of edge (get_or rects j d)
+rises edge rects i j d h (inl e) lt = rw e (omega (arith, ints))
+rises edge rects i j d h (inr below) lt = h i j d below lt
 
--- and what it finds
+pub sorted_is_parted : (edge : Edge) (rects : List Rect) (y : ℤ) → AreSorted edge rects → IsPartitionedBy (λ r. int_le (edge_of edge r) y) rects
+sorted_is_parted edge rects y h i j d le lt e =
+    le_below (edge_of edge (get_or rects i d)) (edge_of edge (get_or rects j d)) y (rises edge rects i j d h (eq-or-lt_of_le le) lt) e
 
-taken_before : {V : Type 0} (steps : List (Step V)) (y : ℤ) (n : ℕ) → n ≤ length steps →
-    ((k : ℕ) (d : Step V) → k < n → int_le (get_or steps k d).from y ≡ true) →
-    EndsBefore (y +ℤ pos 1) (take n steps)
-taken_before steps y zero le h = tt
-taken_before [] y (suc n) le h = absurd (omega (arith, le))
-taken_before (s ∷ steps) y (suc n) le h =
-    (begun_by s.from y (h 0 s (omega arith)), taken_before steps y n (omega (arith, le)) (λ k d lt. h (suc k) d (omega (arith, lt))))
+pub sorted_take : (edge : Edge) (n : ℕ) (rects : List Rect) → AreSorted edge rects → AreSorted edge (take n rects)
+sorted_take edge n rects h = pairs_take (λ a b. edge_of edge a ≤ℤ edge_of edge b) n rects h
 
-left_after : {V : Type 0} (steps : List (Step V)) (y : ℤ) (n : ℕ) → ((d : Step V) → n < length steps → int_le (get_or steps n d).from y ≡ false) →
-    BeginsAfter y (drop n steps)
-left_after [] y zero h = tt
-left_after [] y (suc n) h = tt
-left_after (s ∷ steps) y zero h = not_begun_by s.from y (h s (omega arith))
-left_after (s ∷ steps) y (suc n) h = left_after steps y n (λ d lt. h d (omega (arith, lt)))
+-- all from one on are later where it is
+pub later_from : (edge : Edge) (rects : List Rect) (y : ℤ) (n : ℕ) (d : Rect) → AreSorted edge rects → n < length rects →
+    y <ℤ edge_of edge (get_or rects n d) → All (λ r. y <ℤ edge_of edge r) (drop n rects)
+later_from edge [] y n d h lt later = absurd (omega (arith, lt))
+later_from edge (r ∷ rects) y zero d h lt later =
+    All-cons (λ q. y <ℤ edge_of edge q) r rects later
+    (All-weaker (λ q. edge_of edge r ≤ℤ edge_of edge q) (λ q. y <ℤ edge_of edge q) (λ q le. omega (arith, ints, le, later)) rects
+    (pairs_head (λ a b. edge_of edge a ≤ℤ edge_of edge b) r rects h))
+later_from edge (r ∷ rects) y (suc n) d h lt later =
+    later_from edge rects y n d (pairs_tail (λ a b. edge_of edge a ≤ℤ edge_of edge b) r rects h) (omega (arith, lt)) later
 
-pub parted_before : {V : Type 0} (steps : List (Step V)) (y : ℤ) (n : ℕ) → n ≤ length steps →
-    IsPartitionPoint (λ s. int_le s.from y ≡ true) (λ s. int_le s.from y ≡ false) steps n → EndsBefore (y +ℤ pos 1) (take n steps)
-parted_before steps y n le h = taken_before steps y n le (λ k d lt. h.0 k d (omega arith) lt)
+-- what it finds in the first of them
 
-pub parted_later : {V : Type 0} (steps : List (Step V)) (y : ℤ) (n : ℕ) →
-    IsPartitionPoint (λ s. int_le s.from y ≡ true) (λ s. int_le s.from y ≡ false) steps n → BeginsAfter y (drop n steps)
-parted_later steps y n h = left_after steps y n (λ d lt. h.1 n d (omega arith) lt)
+abbrev pub IsFound : Edge → ℤ → List Rect → ℕ → Type 0
+IsFound edge y rects n = IsPartitionPoint (λ r. int_le (edge_of edge r) y ≡ true) (λ r. int_le (edge_of edge r) y ≡ false) rects n
 
--- the value after steps that have begun
-pub value_at-passed : {V : Type 0} (v : V) (passed rest : List (Step V)) (y : ℤ) → EndsBefore (y +ℤ pos 1) passed →
-    value_at v (passed ++ rest) y ≡ value_at (final_value v passed) rest y
-value_at-passed v [] rest y h = refl
-value_at-passed v (s ∷ passed) rest y h = rw (ge_is y s.from (omega (arith, ints, h.0))) (value_at-passed s.value passed rest y h.1)
+pub found_before : (edge : Edge) (rects near : List Rect) (y : ℤ) (m n : ℕ) → near ≡ take m rects → m ≤ length rects → n ≤ length near →
+    IsFound edge y near n → All (λ r. edge_of edge r ≤ℤ y) (take n rects)
+found_before edge rects near y m n e bound le h = λ k d lt.
+    let short : length near ≡ m = ap length e ∙ length-take-le m rects bound in
+    let below : k < n = omega (arith, lt, length-take n rects) in
+    let within : k < m = omega (arith, below, le, short) in
+    let same : get_or near k d ≡ get_or rects k d = ap (λ l. get_or l k d) e ∙ get_or-take m rects k d within in
+    subst (λ r. edge_of edge r ≤ℤ y) (sym (get_or-take n rects k d below))
+    (begun_by (edge_of edge (get_or rects k d)) y (subst (λ r. int_le (edge_of edge r) y ≡ true) same (h.0 k d (omega arith) below)))
+
+found_at : (edge : Edge) (rects near : List Rect) (y : ℤ) (m n : ℕ) → AreSorted edge rects → near ≡ take m rects → m ≤ length rects →
+    All (λ r. y <ℤ edge_of edge r) (drop m rects) → IsFound edge y near n → (n ≡ length near) ⊎ (n < length near) →
+    All (λ r. y <ℤ edge_of edge r) (drop n rects)
+found_at edge rects near y m n s e bound later h (inl all) =
+    let short : length near ≡ m = ap length e ∙ length-take-le m rects bound in
+    subst (λ i. All (λ r. y <ℤ edge_of edge r) (drop i rects)) (sym (all ∙ short)) later
+found_at edge rects near y m n s e bound later h (inr lt) =
+    let short : length near ≡ m = ap length e ∙ length-take-le m rects bound in
+    let same : get_or near n no_rect ≡ get_or rects n no_rect = ap (λ l. get_or l n no_rect) e ∙ get_or-take m rects n no_rect (omega (arith, lt, short)) in
+    later_from edge rects y n no_rect s (omega (arith, lt, short, bound))
+    (not_begun_by (edge_of edge (get_or rects n no_rect)) y
+    (subst (λ r. int_le (edge_of edge r) y ≡ false) same (h.1 n no_rect (omega arith) lt)))
+
+pub found_later : (edge : Edge) (rects near : List Rect) (y : ℤ) (m n : ℕ) → AreSorted edge rects → near ≡ take m rects → m ≤ length rects →
+    All (λ r. y <ℤ edge_of edge r) (drop m rects) → n ≤ length near → IsFound edge y near n → All (λ r. y <ℤ edge_of edge r) (drop n rects)
+found_later edge rects near y m n s e bound later le h = found_at edge rects near y m n s e bound later h (eq-or-lt_of_le le)

@@ -1,26 +1,26 @@
 -- The columns of spans.
-use Rattle.std.proofs.Common.{◌≡◌, ◌∙◌, ℕ, ℤ, ◌+◌, ◌<◌, ◌≤ℤ◌, pos, negsuc, List, [], ◌∷◌, ◌++◌, length, get_or, take, add-one, Bool, true}
+use Rattle.std.proofs.Common.{◌≡◌, ◌∙◌, ℕ, ℤ, ◌+◌, ◌<◌, ◌≤ℤ◌, pos, List, [], ◌∷◌, ◌++◌, length, get_or, take, add-one, Bool, true}
+use Rattle.std.proofs.Common.{◌<ℤ◌}
 use Rattle.std.proofs.Common.{false, refl, ap, sym, subst, arith, int_lt, int_le, ◌&&◌, ◌||◌, FitsSigned, w32}
 use Rattle.std.specs.List.{All}
-use Rattle.std.proofs.lemmas.Int.{ints}
 use Rattle.std.proofs.Math.Seq.{take-suc}
 use Rattle.std.proofs.lemmas.List.{get_or-take, get_or_default, length-take-le}
 use Rattle.std.proofs.lemmas.List.Elements.{All-head}
 use Rattle.std.proofs.lemmas.List.Folds.{list_any-append}
 use Rattle.geom_base.specs.Points.{is_in_some}
-use Rattle.region.specs.declared.step.Step.{Step}
+use Rattle.region.specs.Steps.{Step}
 use Rattle.region.specs.declared.span.Span.{Span}
+use Rattle.region.specs.declared.span_list.SpanList.{SpanList}
 use Rattle.region.specs.Columns.{column, has_column}
+use Rattle.region.specs.InnerSpanList.{change, steps_of}
 use Rattle.region.specs.InnerColumns.{IsColumns}
 use Rattle.region.specs.Canonical.{point_from}
 use Rattle.region.specs.InnerRuns.{AreRuns, AreEnded, with_run}
 use Rattle.region.specs.Spans.{in_spans, AreSpans, rects_of_spans}
 use Rattle.region.specs.InnerSpans.{AreSpanRuns}
 use Rattle.region.proofs.BandMoveLemmas.{All-right}
-use Rattle.region.proofs.RunLemmas.{no_runs, runs_same, final_of_seen, value_of_seen, reduced_of_seen}
-
-pub span_runs_none : (end : ℤ) → end ≡ negsuc 2147483647 → AreSpanRuns [] end []
-span_runs_none end e = record { runs = no_runs column (λ b. Unit {0}) end (λ y x. false) (λ x y. refl); below = λ y fits all. omega (arith, ints, e, fits) }
+use Rattle.region.proofs.SpanListLemmas.{turn_is_put}
+use Rattle.region.proofs.RunLemmas.{put_end, put_run, runs_same, final_of_seen, value_of_seen, reduced_of_seen}
 
 -- the next span begins where the last one ends, or after it
 pub span_is_later : (spans : List Span) (k : ℕ) (d : Span) (end : ℤ) (steps : List (Step Bool)) → k < length spans → AreSpans spans →
@@ -68,6 +68,19 @@ span_columns set end steps h = record {
 pub span_points : (set : ℤ → ℤ → Bool) (end : ℤ) (steps : List (Step Bool)) → AreEnded column (λ b. Unit {0}) end set steps → (x : ℤ) →
     has_column steps x ≡ set x (pos 0)
 span_points set end steps h x = ap (λ f. f (pos 0)) (sym (value_of_seen column false steps x)) ∙ h.points (pos 0) x
+
+-- code turns off where the last span ends, and on where the next one begins
+
+pub span_ends : (set : ℤ → ℤ → Bool) (end : ℤ) (old new : SpanList) → AreRuns column (λ b. Unit {0}) end set (steps_of old) → FitsSigned w32 end →
+    steps_of new ≡ steps_of old ++ change old.inside false end → AreEnded column (λ b. Unit {0}) end set (steps_of new)
+span_ends set end old new r fits e = put_end column (λ b. Unit {0}) false (column false) end set (steps_of old) (steps_of new) r fits (λ x. refl) (λ x. refl)
+    (turn_is_put old new false end e)
+
+pub span_begins : (set : ℤ → ℤ → Bool) (from to : ℤ) (old new : SpanList) → AreRuns column (λ b. Unit {0}) from set (steps_of old) → from <ℤ to →
+    FitsSigned w32 from → steps_of new ≡ steps_of old ++ change old.inside true from →
+    AreRuns column (λ b. Unit {0}) to (with_run set from to (column true)) (steps_of new)
+span_begins set from to old new r wide fits e = put_run column (λ b. Unit {0}) false (column true) from to set (steps_of old) (steps_of new) r wide fits
+    (λ x. refl) (turn_is_put old new true from e)
 
 -- the points of a row's rectangles
 row_test : (l r t b rest : Bool) → ((l && r && t && b) || ((t && b) && rest)) ≡ ((t && b) && ((l && r) || rest))

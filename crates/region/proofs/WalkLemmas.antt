@@ -1,6 +1,6 @@
 use Rattle.std.proofs.Common.{◌≡◌, ◌∙◌, ℕ, ℤ, ◌+ℤ◌, ◌-ℤ◌, ◌<ℤ◌, ◌≤ℤ◌, pos, List, [], ◌∷◌, Bool, true, false, refl, ap, sym, subst, arith, inl, inr, zero, suc}
 use Rattle.std.proofs.lemmas.Int.{ints}
-use Rattle.region.specs.declared.step.Step.{Step}
+use Rattle.region.specs.Steps.{Step}
 use Rattle.region.specs.Steps.{value_at, final_value, BeginsAfter, AllValid, Same, IsReduced}
 use Rattle.region.specs.InnerSteps.{BeginsFrom}
 use Rattle.region.specs.Window.{places_from}

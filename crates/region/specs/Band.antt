@@ -2,7 +2,7 @@
 use Rattle.std.specs.Prelude.{◌≡◌, ℤ, List, [], ◌∷◌, ◌++◌, Bool, if◌then◌else◌}
 use Rattle.geom_base.specs.declared.point.Point.{Point}
 use Rattle.geom_base.specs.declared.rect.Rect.{Rect}
-use Rattle.region.specs.declared.step.Step.{Step}
+use Rattle.region.specs.Steps.{Step}
 use Rattle.region.specs.Steps.{value_at, final_value, AllValid, IsReduced}
 use Rattle.region.specs.Columns.{Columns, has_column, HasColumns}
 

@@ -6,7 +6,7 @@ use Rattle.geom_base.specs.declared.rect.Rect.{Rect}
 use Rattle.region.specs.Limits.{most_rects}
 use Rattle.region.specs.declared.refusal.RegionRefusal.{RegionRefusal}
 use Rattle.region.specs.declared.refusal.RegionRefusal.TheVariants.{TooMany, NoMemory}
-use Rattle.region.specs.declared.step.Step.{Step}
+use Rattle.region.specs.Steps.{Step}
 use Rattle.region.specs.Columns.{Columns}
 use Rattle.region.specs.Band.{Bands, rects_of}
 use Rattle.region.specs.Region.{IsRegionOf}

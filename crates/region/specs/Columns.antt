@@ -1,6 +1,6 @@
 -- Sets of columns by steps.
 use Rattle.std.specs.Prelude.{◌≡◌, ℤ, List, Bool, false}
-use Rattle.region.specs.declared.step.Step.{Step}
+use Rattle.region.specs.Steps.{Step}
 use Rattle.region.specs.Steps.{value_at, final_value, IsReduced}
 
 -- from a place on, whether the columns are in the set

@@ -1,36 +1,56 @@
--- Inside the crate: bands that are counted, and kept while they are few.
-use Rattle.std.specs.Prelude.{◌≡◌, ◌+◌, ◌≤◌, ℕ, List, [], ◌∷◌, Bool, if◌then◌else◌}
-use Rattle.region.specs.Limits.{most_rects}
-use Rattle.region.specs.declared.step.Step.{Step}
-use Rattle.region.specs.Steps.{final_value, AllValid}
+-- Inside the crate: bands whose rectangles are counted, and kept while they are few.
+use Rattle.std.specs.Prelude.{◌≡◌, ◌+◌, ◌≤◌, ℕ, ℤ, List, [], ◌∷◌, ◌++◌, length, take, drop, Bool, if◌then◌else◌}
+use Rattle.geom_base.specs.declared.point.Point.{Point}
+use Rattle.geom_base.specs.declared.rect.Rect.{Rect}
+use Rattle.region.specs.Steps.{Step, final_value, AllValid}
 use Rattle.region.specs.Columns.{Columns}
 use Rattle.region.specs.InnerColumns.{IsColumns}
-use Rattle.region.specs.Band.{Bands, IsCanonical}
-use Rattle.region.specs.InnerBand.{lists_of}
+use Rattle.region.specs.Band.{Bands, IsCanonical, has_point, rects_of}
+use Rattle.region.specs.Spans.{rects_of_spans}
+use Rattle.region.specs.InnerSpanList.{span_steps}
+use Rattle.region.specs.declared.span.Span.{Span}
+use Rattle.region.specs.declared.band_list.BandList.{BandList}
 
 -- the number of steps that begin columns of the set: of the runs of columns
 abbrev pub run_count : List (Step Bool) → ℕ
 run_count [] = 0
 run_count (s ∷ steps) = (if s.value then 1 else 0) + run_count steps
 
--- the number of rectangles of bands, given the columns of each
-abbrev pub rect_count : {V : Type 0} → (V → List (Step Bool)) → List (Step V) → ℕ
-rect_count columns [] = 0
-rect_count columns (b ∷ bands) = run_count (columns b.value) + rect_count columns bands
+-- the number of rectangles of bands
+abbrev pub rect_count : Bands → ℕ
+rect_count [] = 0
+rect_count (b ∷ bands) = run_count b.value + rect_count bands
 
--- this is the number of the bands' rectangles; the last band is kept, and all where these are not too many
-pub record IsKept {V : Type 0} (columns : V → List (Step Bool)) (bands kept : List (Step V)) (count : ℕ) : Type 0 where
-  pub number : count ≡ rect_count columns bands
-  pub values : AllValid (λ v. IsColumns (columns v)) bands
-  pub last : (empty : V) → final_value empty kept ≡ final_value empty bands
-  pub all : count ≤ most_rects → kept ≡ bands
+-- a rectangle that ends at a row
+abbrev pub ended_at : ℤ → Rect → Rect
+ended_at bottom r = record r { bottom = bottom }
 
--- this is the number of the bands' rectangles, and all are kept where these are not too many
-pub record IsCounted {V : Type 0} (columns : V → Columns) (bands : Bands) (kept : List (Step V)) (count : ℕ) : Type 0 where
-  pub number : count ≡ rect_count (λ c. c) bands
-  pub all : count ≤ most_rects → lists_of columns kept ≡ bands
+-- the rectangles of the last band have these spans, and end where they begin; those before it are all others, where they are not too many
+pub record IsKept (list : BandList) (bands : Bands) : Type 0 where
+  pub row : List Span
+  pub from : ℤ
+  pub number : list.count ≡ rect_count bands
+  pub within : list.ended ≤ length list.rects.items
+  pub value : final_value [] bands ≡ span_steps row
+  pub last : drop list.ended list.rects.items ≡ rects_of_spans from from row
+  pub all : list.count ≤ list.most → (to : ℤ) (columns : Columns) →
+      rects_of (λ c. c) (bands ++ record { from = to; value = columns } ∷ []) ≡ take list.ended list.rects.items ++ rects_of_spans from to row
 
--- canonical bands of columns as code holds them
+-- this is the number of the bands' rectangles, and they are kept where they are not too many
+pub record IsCounted (list : BandList) (bands : Bands) : Type 0 where
+  pub number : list.count ≡ rect_count bands
+  pub within : list.ended ≤ length list.rects.items
+  pub few : list.count ≤ list.most → IsKept list bands
+
+-- canonical bands, at places that code can hold
 pub record AreCanonical (bands : Bands) : Type 0 where
   pub canonical : IsCanonical bands
   pub values : AllValid IsColumns bands
+
+-- the bands of a set, with so many rectangles at most
+pub record IsBuilt (most : ℕ) (set : Point → Bool) (list : BandList) : Type 0 where
+  pub bands : Bands
+  pub counted : IsCounted list bands
+  pub limit : list.most ≡ most
+  pub canonical : AreCanonical bands
+  pub points : (p : Point) → has_point bands p ≡ set p

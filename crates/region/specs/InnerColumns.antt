@@ -1,15 +1,10 @@
 -- Inside the crate: columns as code holds them.
-use Rattle.std.specs.Prelude.{◌≡◌, List, [], ◌∷◌, Bool, Vec}
-use Rattle.std.specs.Global.{Global}
-use Rattle.region.specs.declared.step.Step.{Step}
-use Rattle.region.specs.Columns.{Columns, HasColumns}
+use Rattle.std.specs.Prelude.{◌≡◌, List, [], ◌∷◌, Bool}
+use Rattle.region.specs.Steps.{Step}
+use Rattle.region.specs.Columns.{HasColumns}
 use Rattle.region.specs.InnerSteps.{AllFit}
 
--- the steps that code holds
-abbrev pub columns_of : Vec (Step Bool) Global → Columns
-columns_of v = v.items
-
--- such steps as code holds them
+-- columns at places that code can hold
 pub record IsColumns (steps : List (Step Bool)) : Type 0 where
   pub columns : HasColumns steps
   pub fits : AllFit steps

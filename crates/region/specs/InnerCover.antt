@@ -1,13 +1,14 @@
 -- Inside the crate: which columns of which rows are covered: a tree over the cells between neighbouring edges.
-use Rattle.std.specs.Prelude.{◌≡◌, ◌+◌, ℕ, ℤ, ◌<ℤ◌, ◌≤ℤ◌, ◌⊎◌, List, [], ◌∷◌, ◌++◌, Bool, true, false, ◌&&◌, ◌||◌, if◌then◌else◌, int_lt, int_le}
+use Rattle.std.specs.Prelude.{◌≡◌, ◌+◌, ℕ, ℤ, ◌<ℤ◌, ◌≤ℤ◌, ◌⊎◌, List, ◌++◌, Bool, true, false, ◌&&◌, ◌||◌, if◌then◌else◌, int_lt, int_le}
 use Rattle.geom_base.specs.declared.rect.Rect.{Rect}
-use Rattle.region.specs.declared.step.Step.{Step}
+use Rattle.region.specs.Steps.{Step}
 use Rattle.region.specs.declared.row.Row.{Row}
 use Rattle.region.specs.declared.strip.Strip.{Strip}
 use Rattle.region.specs.declared.cover.Cover.{Cover}
 use Rattle.region.specs.declared.cover.Cover.TheVariants.{Cell, Pair'}
 use Rattle.region.specs.InnerStrip.{within}
 use Rattle.region.specs.InnerBandList.{run_count}
+use Rattle.region.specs.InnerSpanList.{change}
 
 -- the columns of a cover, and what stands in its present row
 abbrev pub strip_of : Cover → Strip
@@ -33,13 +34,6 @@ first_in (Pair' s p l q r) y = if int_lt y s.until then true else first_in l y
 abbrev pub last_in : Cover → ℤ → Bool
 last_in (Cell s) y = int_lt y s.until
 last_in (Pair' s p l q r) y = if int_lt y s.until then true else last_in r y
-
--- a step where the value changes
-abbrev pub change : Bool → Bool → ℤ → List (Step Bool)
-change true true x = []
-change true false x = record { from = x; value = false } ∷ []
-change false true x = record { from = x; value = true } ∷ []
-change false false x = []
 
 -- the steps of a row, given whether the column before is covered
 abbrev pub steps_in : Cover → ℤ → Bool → List (Step Bool)

@@ -1,9 +1,9 @@
 -- Inside the crate: how the smallest rectangle around others is found, and what a region keeps.
-use Rattle.std.specs.Prelude.{◌↔◌, ◌≤ℤ◌, List, Bool}
+use Rattle.std.specs.Prelude.{◌↔◌, ◌≤◌, ◌≤ℤ◌, length, List}
 use Rattle.std.specs.List.{All}
 use Rattle.geom_base.specs.declared.rect.Rect.{Rect}
-use Rattle.region.specs.declared.step.Step.{Step}
-use Rattle.region.specs.InnerBand.{IsListed}
+use Rattle.region.specs.Limits.{most_rects}
+use Rattle.region.specs.Region.{IsRegion}
 use Rattle.region.specs.Extents.{AreExtents}
 
 -- no edge of a rectangle is outside the other
@@ -18,6 +18,7 @@ abbrev pub IsAround : List Rect → List Rect → Rect → Type 0
 IsAround rects rest r = (outer : Rect) → (Surrounds outer r × All (Surrounds outer) rest) ↔ All (Surrounds outer) rects
 
 -- what a region keeps
-pub record IsKeptRegion {V : Type 0} (columns : V → List (Step Bool)) (bands : List (Step V)) (rects : List Rect) (smallest : Rect) : Type 0 where
-  pub listed : IsListed columns bands rects
+pub record IsKeptRegion (rects : List Rect) (smallest : Rect) : Type 0 where
+  pub region : IsRegion rects
+  pub few : length rects ≤ most_rects
   pub extents : AreExtents rects smallest

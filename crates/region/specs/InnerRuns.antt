@@ -1,6 +1,6 @@
 -- Inside the crate: runs of places with a value, put one after another as steps.
 use Rattle.std.specs.Prelude.{◌≡◌, ℤ, ◌+ℤ◌, pos, List, [], ◌∷◌, ◌++◌, Bool, false, ◌&&◌, ◌||◌, int_lt, int_le}
-use Rattle.region.specs.declared.step.Step.{Step}
+use Rattle.region.specs.Steps.{Step}
 use Rattle.region.specs.Steps.{value_at, final_value, AllValid, IsReduced}
 use Rattle.region.specs.InnerSteps.{EndsBefore, IsOrdered, AllFit}
 

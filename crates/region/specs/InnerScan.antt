@@ -1,17 +1,17 @@
 -- Inside the crate: rectangles from top to bottom, and how far a scan over their rows has come.
-use Rattle.std.specs.Prelude.{◌≡◌, ◌<◌, ℤ, ◌≤ℤ◌, ◌+ℤ◌, ◌⊎◌, pos, negsuc, length, List, [], ◌∷◌, Bool, true, false, ◌||◌}
+use Rattle.std.specs.Prelude.{◌≡◌, ◌<◌, ℤ, ◌≤ℤ◌, ◌+ℤ◌, ◌⊎◌, pos, negsuc, length, List, [], ◌∷◌, Bool, true, false, ◌||◌, if◌then◌else◌, int_lt}
 use Rattle.std.specs.Int.{int_max}
 use Rattle.std.specs.List.{All, Contains}
 use Rattle.geom_base.specs.declared.point.Point.{Point}
 use Rattle.geom_base.specs.declared.rect.Rect.{Rect}
 use Rattle.geom_base.specs.Points.{is_in_some, HasPoints}
 use Rattle.region.specs.declared.cover.Cover.{Cover}
-use Rattle.region.specs.Steps.{final_value, AllValid, IsReduced}
+use Rattle.region.specs.Steps.{Step, final_value, AllValid, IsReduced}
 use Rattle.region.specs.InnerSteps.{EndsBefore, AllFit}
+use Rattle.region.specs.Limits.{most_rects}
 use Rattle.region.specs.Columns.{has_column}
-use Rattle.region.specs.InnerColumns.{IsColumns, columns_of}
+use Rattle.region.specs.InnerColumns.{IsColumns}
 use Rattle.region.specs.Band.{Bands}
-use Rattle.region.specs.InnerSweep.{before_or}
 use Rattle.region.specs.declared.band_list.BandList.{BandList}
 use Rattle.region.specs.InnerBandList.{IsCounted}
 use Rattle.region.specs.InnerCover.{strip_of, covers, IsCover, Splits, SameShape}
@@ -97,6 +97,11 @@ pub record IsNextRow (steady : ℤ) (rects : List Rect) (p : ℤ) : Type 0 where
   pub here : (p ≡ steady +ℤ pos 1) ⊎ BeginIn p rects
   pub last : p ≤ℤ pos 2147483647
 
+-- where the steps hold, and from the last one on what others say
+abbrev pub before_or : {V : Type 0} → (V → ℤ → Bool) → V → List (Step V) → (ℤ → ℤ → Bool) → ℤ → ℤ → Bool
+before_or holds v [] rest y x = rest y x
+before_or holds v (s ∷ steps) rest y x = if int_lt y s.from then holds v x else before_or holds s.value steps rest y x
+
 -- what a cover and rectangles below hold: in the rows before one what stands in that row
 abbrev pub ahead : ℤ → Cover → List Rect → ℤ → ℤ → Bool
 ahead z t rest y x = covers t (int_max y z) x || is_in_some (record { x = x; y = y }) rest
@@ -129,4 +134,5 @@ pub record IsScanned (rects : List Rect) (z : ℤ) (t : Cover) (rest : List Rect
 pub record IsScannedInto (rects : List Rect) (z : ℤ) (t : Cover) (rest : List Rect) (list : BandList) : Type 0 where
   pub bands : Bands
   pub scanned : IsScanned rects z t rest bands
-  pub counted : IsCounted columns_of bands list.bands.items list.count
+  pub counted : IsCounted list bands
+  pub limit : list.most ≡ most_rects

@@ -3,7 +3,7 @@ use Rattle.std.specs.Prelude.{ℤ, ◌≤ℤ◌, List, Bool, FitsSigned}
 use Rattle.std.specs.Int.{w32}
 use Rattle.std.specs.List.{All}
 use Rattle.region.specs.declared.span.Span.{Span}
-use Rattle.region.specs.declared.step.Step.{Step}
+use Rattle.region.specs.Steps.{Step}
 use Rattle.region.specs.Columns.{column}
 use Rattle.region.specs.InnerRuns.{AreRuns}
 use Rattle.region.specs.Spans.{in_spans}

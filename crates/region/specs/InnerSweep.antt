@@ -1,67 +1,92 @@
--- Inside the crate: how far a sweep over two lists of steps has come.
-use Rattle.std.specs.Prelude.{◌≡◌, ◌≤◌, ℤ, length, List, [], ◌∷◌, Bool, if◌then◌else◌, int_lt}
-use Rattle.region.specs.declared.step.Step.{Step}
+-- Inside the crate: how far a sweep over two sets has come.
+use Rattle.std.specs.Prelude.{◌≡◌, ℤ, ◌+ℤ◌, ◌<ℤ◌, ◌≤ℤ◌, pos, List, [], ◌∷◌, ◌++◌, ◌⊎◌, Bool, false, Option, Some, None}
+use Rattle.std.specs.Int.{int_min, int_max}
+use Rattle.region.specs.Steps.{Step, value_at, final_value, AllValid, IsReduced, Same}
+use Rattle.region.specs.InnerSteps.{EndsBefore, IsOrdered, AllFit}
 use Rattle.region.specs.declared.operation.Operation.{Operation}
 use Rattle.region.specs.Operation.{holds_after}
-use Rattle.region.specs.Steps.{value_at, final_value, AllValid, IsReduced}
-use Rattle.region.specs.InnerSteps.{BeginsFrom, EndsBefore, IsOrdered, AllFit}
 
--- where the steps hold, and from the last one on what others say
-abbrev pub before_or : {V : Type 0} → (V → ℤ → Bool) → V → List (Step V) → (ℤ → ℤ → Bool) → ℤ → ℤ → Bool
-before_or holds v [] rest y x = rest y x
-before_or holds v (s ∷ steps) rest y x = if int_lt y s.from then holds v x else before_or holds s.value steps rest y x
+-- an operand gives the result of an operation where it is so, whatever the other one is
+abbrev pub Decides : (Bool → Bool → Bool) → Bool → Type 0
+Decides op a = (b c : Bool) → op a b ≡ op a c
 
--- an operation on two lists of steps, point by point
-abbrev pub both : {V : Type 0} → (V → ℤ → Bool) → (Bool → Bool → Bool) → V → List (Step V) → V → List (Step V) → ℤ → ℤ → Bool
-both holds op v a w b y x = op (holds (value_at v a y) x) (holds (value_at w b y) x)
-
--- the left operand gives the result of an operation, whatever the right one is
 abbrev pub LeftDecides : Operation → Bool → Type 0
-LeftDecides operation a = (b c : Bool) → holds_after operation a b ≡ holds_after operation a c
+LeftDecides operation = Decides (holds_after operation)
 
--- the right operand gives it, whatever the left one is
 abbrev pub RightDecides : Operation → Bool → Type 0
-RightDecides operation b = (a c : Bool) → holds_after operation a b ≡ holds_after operation c b
+RightDecides operation = Decides (λ b a. holds_after operation a b)
 
--- the operation stays the same where some steps of one operand are passed over
-pub record IsSkipped {V : Type 0} (holds : V → ℤ → Bool) (valid : V → Type 0) (op : Bool → Bool → Bool) (steps : List (Step V)) (value : V)
-    (others : List (Step V)) (other : V) (rest : List (Step V)) (current : V) : Type 0 where
-  pub points : (x y : ℤ) → both holds op value steps other others y x ≡ both holds op current rest other others y x
-  pub now : (x : ℤ) → op (holds value x) (holds other x) ≡ op (holds current x) (holds other x)
-  pub final : final_value value steps ≡ final_value current rest
-  pub begins : (z : ℤ) → BeginsFrom z steps → BeginsFrom z rest
-  pub ordered : IsOrdered rest
-  pub values : AllValid valid rest
-  pub current_is_valid : valid current
-  pub shorter : length rest ≤ length steps
+-- what decides the result, for each operand that can
+pub record AreDeciders (op : Bool → Bool → Bool) (left right : Option Bool) : Type 0 where
+  pub by_left : (a : Bool) → left ≡ Some a → Decides op a
+  pub by_right : (b : Bool) → right ≡ Some b → Decides (λ b a. op a b) b
 
--- all steps are before the first of others
-abbrev pub ComesBefore : {V : Type 0} → List (Step V) → List (Step V) → Type 0
-ComesBefore out [] = Unit {0}
-ComesBefore out (s ∷ steps) = EndsBefore s.from out
+-- an operation on two sets, point by point
+abbrev pub both : (Bool → Bool → Bool) → (ℤ → ℤ → Bool) → (ℤ → ℤ → Bool) → ℤ → ℤ → Bool
+both op a b z x = op (a z x) (b z x)
 
--- with what is left of both lists, and the values there, the steps made so far give the whole operation
-pub record IsSwept {V : Type 0} (holds : V → ℤ → Bool) (valid : V → Type 0) (op : Bool → Bool → Bool) (empty : V) (a b rest_a : List (Step V)) (now_a : V)
-    (rest_b : List (Step V)) (now_b : V) (out : List (Step V)) : Type 0 where
-  pub points : (x y : ℤ) → before_or holds empty out (both holds op now_a rest_a now_b rest_b) y x ≡ both holds op empty a empty b y x
-  pub now : (x : ℤ) → holds (final_value empty out) x ≡ op (holds now_a x) (holds now_b x)
-  pub reduced : IsReduced holds empty out
-  pub values : AllValid valid out
-  pub fits : AllFit out
-  pub before_a : ComesBefore out rest_a
-  pub before_b : ComesBefore out rest_b
-  pub ordered_a : IsOrdered rest_a
-  pub ordered_b : IsOrdered rest_b
-  pub values_a : AllValid valid rest_a
-  pub values_b : AllValid valid rest_b
-  pub valid_a : valid now_a
-  pub valid_b : valid now_b
-  pub final_a : final_value now_a rest_a ≡ final_value empty a
-  pub final_b : final_value now_b rest_b ≡ final_value empty b
+-- the same on the columns of one place
+abbrev pub both_now : (Bool → Bool → Bool) → (ℤ → Bool) → (ℤ → Bool) → ℤ → Bool
+both_now op a b x = op (a x) (b x)
 
--- the same of the steps that were put somewhere
-pub record IsSweptInto {V : Type 0} (has : List (Step V) → Type 0) (holds : V → ℤ → Bool) (valid : V → Type 0) (op : Bool → Bool → Bool) (empty : V)
-    (a b rest_a : List (Step V)) (now_a : V) (rest_b : List (Step V)) (now_b : V) : Type 0 where
-  pub out : List (Step V)
-  pub put : has out
-  pub swept : IsSwept holds valid op empty a b rest_a now_a rest_b now_b out
+-- the first of two places, where there is one
+abbrev pub sooner : Option ℤ → Option ℤ → Option ℤ
+sooner None b = b
+sooner (Some a) None = Some a
+sooner (Some a) (Some b) = Some (int_min a b)
+
+-- the last of two places, where both are
+abbrev pub later : Option ℤ → Option ℤ → Option ℤ
+later None b = None
+later (Some a) None = None
+later (Some a) (Some b) = Some (int_max a b)
+
+-- a place is reached at another or before it
+abbrev pub IsReached : ℤ → Option ℤ → Type 0
+IsReached n None = ⊥
+IsReached n (Some m) = m ≤ℤ n
+
+-- the steps of a set: they are in order, and each changes the columns
+pub record AreStepsOf {V : Type 0} (holds : V → ℤ → Bool) (valid : V → Type 0) (empty : V) (set : ℤ → ℤ → Bool) (steps : List (Step V)) : Type 0 where
+  pub points : (x y : ℤ) → holds (value_at empty steps y) x ≡ set y x
+  pub reduced : IsReduced holds empty steps
+  pub values : AllValid valid steps
+  pub fits : AllFit steps
+  pub final : (x : ℤ) → holds (final_value empty steps) x ≡ false
+
+-- a step can be put after these at a place
+pub record CanTake {V : Type 0} (valid : V → Type 0) (place : ℤ) (steps : List (Step V)) : Type 0 where
+  pub ordered : IsOrdered steps
+  pub values : AllValid valid steps
+  pub fits : AllFit steps
+  pub before : EndsBefore place steps
+
+-- these columns were put from a place on: by a step, where they are not the last ones
+pub record IsPut {V : Type 0} (holds : V → ℤ → Bool) (valid : V → Type 0) (empty : V) (columns : ℤ → Bool) (place : ℤ) (steps more : List (Step V)) : Type 0 where
+  pub value : V
+  pub is_valid : valid value
+  pub holds_columns : (x : ℤ) → holds value x ≡ columns x
+  pub put : (Same holds value (final_value empty steps) × (more ≡ steps))
+      ⊎ ((¬ Same holds value (final_value empty steps)) × (more ≡ steps ++ record { from = place; value = value } ∷ []))
+
+-- the steps so far have all rows before a place, and what is left of both sets has the others
+pub record IsSwept {V : Type 0} (holds : V → ℤ → Bool) (valid : V → Type 0) (empty : V) (op : Bool → Bool → Bool) (a b rest_a rest_b : ℤ → ℤ → Bool)
+    (now_a now_b : ℤ → Bool) (place : ℤ) (steps : List (Step V)) : Type 0 where
+  pub done : (x y : ℤ) → y <ℤ place → holds (value_at empty steps y) x ≡ both op a b y x
+  pub now : (x : ℤ) → holds (final_value empty steps) x ≡ both_now op now_a now_b x
+  pub left : (x y : ℤ) → place ≤ℤ y → rest_a y x ≡ a y x
+  pub right : (x y : ℤ) → place ≤ℤ y → rest_b y x ≡ b y x
+  pub reduced : IsReduced holds empty steps
+  pub values : AllValid valid steps
+  pub fits : AllFit steps
+  pub before : EndsBefore (place +ℤ pos 1) steps
+
+-- a sweep as it stands at a place
+pub record Sweeps {C V O : Type 0} (set : C → ℤ → ℤ → Bool) (now : C → ℤ → Bool) (is_at : ℤ → C → Type 0) (has : O → List (Step V) → Type 0)
+    (holds : V → ℤ → Bool) (valid : V → Type 0) (empty : V) (op : Bool → Bool → Bool) (a b left right : C) (out : O) : Type 0 where
+  pub place : ℤ
+  pub steps : List (Step V)
+  pub put : has out steps
+  pub left_at : is_at place left
+  pub right_at : is_at place right
+  pub swept : IsSwept holds valid empty op (set a) (set b) (set left) (set right) (now left) (now right) place steps

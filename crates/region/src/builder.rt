@@ -7,13 +7,12 @@ ghost use Rattle.region.specs.Refusal.{IsAnswer};
 ghost use Rattle.region.specs.Window.{Within};
 ghost use Rattle.region.specs.Canonical.{canonical_rects, Gives};
 ghost use Rattle.region.specs.Spans.{AreSpans, rects_of_spans};
-ghost use Rattle.region.specs.Builder.{first_row, HasRows};
+ghost use Rattle.region.specs.Builder.{first_row, AreRows, HasRows};
 
-use crate::band_list::BandList;
+use crate::band_list::{BandList, MOST_RECTS};
 use crate::refusal::RegionRefusal;
 use crate::region::{Region, region_of_list};
-use crate::runs::{begin_run, end_run, end_run_before};
-use crate::span::{Span, columns_of_spans};
+use crate::span::{Span, joined_spans};
 use std::alloc::{AllocError, Global};
 
 /// A region that is built row by row, from top to bottom.
@@ -31,7 +30,7 @@ impl RegionBuilder {
     {
         RegionBuilder {
             alloc,
-            list: BandList::new(alloc),
+            list: BandList::new(alloc, MOST_RECTS),
             bottom: i32::MIN,
         }
     }
@@ -48,10 +47,21 @@ impl RegionBuilder {
         if spans.is_empty() {
             return Ok(());
         }
-        let columns = columns_of_spans(self.alloc, spans)?;
-        end_run_before(&mut self.list, Vec::new(self.alloc), self.bottom, top)?;
-        begin_run(&mut self.list, &Vec::new(self.alloc), top, columns)?;
+        let row = joined_spans(self.alloc, spans)?;
+        self.end_before(&top)?;
+        self.list.put_row(top, row.spans())?;
         self.bottom = bottom;
+        Ok(())
+    }
+
+    /// Ends the last row, where the next one does not touch it.
+    fn end_before(&mut self, top: &i32) -> Result<(), AllocError>
+        requires { (pushed : List Rect) × HasRows pushed top.now self.old }
+        ensures { OnOk result ((pushed : List Rect) → HasRows pushed top.now self.old → AreRows pushed top.now self.new.list) }
+    {
+        if self.bottom < *top {
+            self.list.put_row(self.bottom, &[])?;
+        }
         Ok(())
     }
 
@@ -62,9 +72,8 @@ impl RegionBuilder {
         ensures canonical { (pushed : List Rect) (end : ℤ) → HasRows pushed end self → Within pushed →
             Gives (canonical_rects (λ p. is_in_some p pushed)) result }
     {
-        let alloc = self.alloc;
         let mut list = self.list;
-        end_run(&mut list, Vec::new(alloc), self.bottom)?;
-        region_of_list(alloc, list)
+        list.put_row(self.bottom, &[])?;
+        region_of_list(list)
     }
 }

@@ -1,10 +1,11 @@
 //! Which columns are covered, row after row.
 
 ghost use Rattle.std.specs.Prelude.{◌≡◌, ◌<◌, ◌≤◌, ◌++◌, ◌<ℤ◌, ◌≤ℤ◌, negsuc, length, IfOk, OnOk};
-ghost use Rattle.region.specs.InnerCover.{strip_of, steps_in, columns_in, change, Splits, IsCover, IsAdded, IsMoved};
+ghost use Rattle.region.specs.InnerCover.{strip_of, steps_in, columns_in, last_in, Splits, IsCover, IsAdded, IsMoved};
+ghost use Rattle.region.specs.InnerSpanList.{span_steps, steps_of};
 ghost use Rattle.region.specs.InnerEdges.{IsRising, IsRisingFrom, IsBuilt, IsOver};
 
-use crate::step::Step;
+use crate::span_list::SpanList;
 use crate::strip::Strip;
 use geom_base::Rect;
 use std::alloc::{AllocError, Global};
@@ -120,59 +121,36 @@ impl Cover {
     }
 
     /// The columns of the present row.
-    pub fn columns(&self, alloc: Global, row: &i32) -> Result<Vec<Step<bool>>, AllocError>
+    pub fn columns(&self, alloc: Global, row: &i32) -> Result<SpanList, AllocError>
         requires cover { IsCover row.now self.now }
         requires steady { row.now ≤ℤ (strip_of self.now).steady }
-        ensures { IfOk result (λ r. r.items ≡ columns_in self.now row.now) }
+        ensures { IfOk result (λ r. span_steps r.spans.items ≡ columns_in self.now row.now) }
     {
-        let mut columns = Vec::new(alloc);
-        self.push_steps(row, false, &mut columns)?;
-        let strip = self.strip();
-        push_change(&mut columns, &strip.to, strip.row.last, false)?;
+        let mut columns = SpanList::new(alloc);
+        self.push_steps(row, &mut columns)?;
+        columns.turn(self.strip().to, false)?;
         Ok(columns)
     }
 
-    /// Adds a step for each change of the present row, given whether the column before the first is covered.
-    fn push_steps(
-        &self,
-        row: &i32,
-        before: bool,
-        out: &mut Vec<Step<bool>>,
-    ) -> Result<(), AllocError>
+    /// Turns at each column of the present row where what is covered changes.
+    fn push_steps(&self, row: &i32, out: &mut SpanList) -> Result<(), AllocError>
         requires cover { IsCover row.now self.now }
         requires steady { row.now ≤ℤ (strip_of self.now).steady }
-        ensures { OnOk result (out.new.items ≡ out.old.items ++ steps_in self.now row.now before) }
+        ensures steps { OnOk result (steps_of out.new ≡ steps_of out.old ++ steps_in self.now row.now out.old.inside) }
+        ensures inside { OnOk result (out.new.inside ≡ last_in self.now row.now) }
     {
         match self {
-            Cover::Cell(strip) => push_change(out, &strip.from, before, *row < strip.until),
+            Cover::Cell(strip) => out.turn(strip.from, *row < strip.until),
             Cover::Pair(strip, left, right) => {
                 if *row < strip.until {
-                    return push_change(out, &strip.from, before, true);
+                    return out.turn(strip.from, true);
                 }
                 if strip.row.filled == 0 {
-                    return push_change(out, &strip.from, before, false);
+                    return out.turn(strip.from, false);
                 }
-                left.push_steps(row, before, out)?;
-                right.push_steps(row, left.strip().row.last, out)
+                left.push_steps(row, out)?;
+                right.push_steps(row, out)
             }
         }
     }
-}
-
-/// Adds a step where a column begins that is not as the one before.
-fn push_change(
-    out: &mut Vec<Step<bool>>,
-    from: &i32,
-    before: bool,
-    covered: bool,
-) -> Result<(), AllocError>
-    ensures { OnOk result (out.new.items ≡ out.old.items ++ change before covered from.now) }
-{
-    if before != covered {
-        out.push(Step {
-            from: *from,
-            value: covered,
-        })?;
-    }
-    Ok(())
 }

@@ -1,53 +1,47 @@
 //! Whether a set has a point of a rectangle.
 
-ghost use Rattle.std.specs.Prelude.{◌<ℤ◌, ◌↔◌, IsTrue};
-ghost use Rattle.region.specs.Columns.{HasColumns};
-ghost use Rattle.region.specs.InnerColumns.{columns_of};
-ghost use Rattle.region.specs.Band.{has_point};
-ghost use Rattle.region.specs.InnerBand.{IsBands, lists_of};
+ghost use Rattle.std.specs.Prelude.{◌↔◌, ◌<ℤ◌, ◌≤ℤ◌, ℤ, IsTrue};
+ghost use Rattle.geom_base.specs.Points.{is_in_some};
+ghost use Rattle.region.specs.Order.{IsInOrder};
 ghost use Rattle.region.specs.Region.{SharesPoint};
+ghost use Rattle.region.specs.InnerCursor.{AreInBand};
 ghost use Rattle.region.specs.InnerMeets.{HasColumnIn};
 
-use crate::band::Band;
-use crate::search::count_until;
-use crate::step::Step;
-use crate::sweep::last_value;
+use crate::search::{Edge, count_until};
 use geom_base::Rect;
 
-/// Whether a set of columns has one from a column on to before another.
-fn has_column_in(columns: &[Step<bool>], left: &i32, right: &i32) -> bool
-    requires columns { HasColumns columns.now }
+/// Whether a band has a column from one on to before another.
+fn has_column_in(band: &[Rect], left: &i32, right: &i32) -> bool
+    requires band { AreInBand band.now }
     requires across { left.now <ℤ right.now }
-    ensures { IsTrue result ↔ HasColumnIn columns.now left.now right.now }
+    ensures { IsTrue result ↔ HasColumnIn band.now left.now right.now }
 {
-    let (passed, rest) = columns.split_at(count_until(columns, left));
-    if *last_value(passed, &false) {
-        return true;
-    }
-    match rest {
+    match band.split_at(count_until(band, Edge::Right, left)).1 {
         [] => false,
-        [next, ..] => next.from < *right,
+        [first, ..] => first.left < *right,
     }
 }
 
-/// Whether bands have a point of a rectangle.
-pub fn bands_meet(bands: &[Band], rect: &Rect) -> bool
-    requires { IsBands columns_of bands.now }
-    ensures { IsTrue result ↔ SharesPoint (has_point (lists_of columns_of bands.now)) rect.now }
+/// Whether the rectangles of a region have a point of a rectangle.
+pub fn rects_meet(rects: &[Rect], rect: &Rect) -> bool
+    requires { IsInOrder rects.now }
+    ensures { IsTrue result ↔ SharesPoint (λ p. is_in_some p rects.now) rect.now }
 {
     if !rect.has_points() {
         return false;
     }
-    let begun = count_until(bands, &rect.top);
-    let mut rest = bands.split_at(begun.saturating_sub(1)).1;
-    while let [band, ..] = rest {
-        if rect.bottom <= band.from {
+    let mut rest = rects
+        .split_at(count_until(rects, Edge::Bottom, &rect.top))
+        .1;
+    while let [first, ..] = rest {
+        if rect.bottom <= first.top {
             return false;
         }
-        if has_column_in(&band.value, &rect.left, &rect.right) {
+        let (band, below) = rest.split_at(count_until(rest, Edge::Top, &first.top));
+        if has_column_in(band, &rect.left, &rect.right) {
             return true;
         }
-        rest = rest.split_at(1).1;
+        rest = below;
     }
     false
 }

@@ -1,15 +1,13 @@
 //! Sets of points.
 
-ghost use Rattle.std.specs.Prelude.{◌≡◌, ◌≤◌, ◌↔◌, ◌||◌, ◌&&◌, not, length, map, IfOk, IfErr, IsTrue, if◌then◌else◌};
+ghost use Rattle.std.specs.Prelude.{◌≡◌, ◌≤◌, ◌↔◌, Bool, ◌||◌, ◌&&◌, not, false, length, map, IfOk, IfErr, IsTrue, if◌then◌else◌};
 ghost use Rattle.std.specs.List.{All, AllPairs};
+ghost use Rattle.geom_base.specs.declared.point.Point.{Point};
 ghost use Rattle.geom_base.specs.Points.{is_in, is_in_some, moved_rect, AreApart};
 ghost use Rattle.region.specs.Limits.{most_rects};
-ghost use Rattle.region.specs.InnerBandList.{IsKept, IsCounted, AreCanonical};
-ghost use Rattle.region.specs.InnerBand.{HeldBands, AreBandsOf};
+ghost use Rattle.region.specs.InnerBandList.{IsBuilt};
 ghost use Rattle.region.specs.Moved.{CanMove, moved_back, RegionMoves};
 ghost use Rattle.region.specs.Operation.{holds_after};
-ghost use Rattle.region.specs.InnerColumns.{columns_of};
-ghost use Rattle.region.specs.Band.{Bands, has_point};
 ghost use Rattle.region.specs.Extents.{AreExtents};
 ghost use Rattle.region.specs.Region.{IsRegion, RegionIsUnique, IsRegionOf, SharesPoint};
 ghost use Rattle.region.specs.Order.{IsInOrder, RegionIsInOrder};
@@ -18,15 +16,18 @@ ghost use Rattle.region.specs.Lengths.{RectIsRegion, MadeOfIsFew, DifferenceIsFe
 ghost use Rattle.region.specs.Window.{Within};
 ghost use Rattle.region.specs.Canonical.{canonical_rects, CanonicalIsOfSet, Gives, AnswersAreCanonical};
 
-use crate::band::{Band, bands_of_rect, combined_bands, rects_of_bands};
+use crate::band_cursor::BandCursor;
 use crate::band_list::{BandList, MOST_RECTS};
+use crate::band_output::BandOutput;
+use crate::bounds::rects_of_bounds;
 use crate::extents::extents_of;
-use crate::meets::bands_meet;
-use crate::moved::moved_bands;
+use crate::meets::rects_meet;
 use crate::operation::Operation;
 use crate::rect_list::{any_holds, are_within, moved_rects};
+use crate::rect_rows::built_by_rows;
 use crate::refusal::RegionRefusal;
 use crate::scan::scanned_bands;
+use crate::sweep::sweep;
 use geom_base::{Point, Rect};
 use std::alloc::{AllocError, Global};
 use std::marker::Model;
@@ -34,7 +35,6 @@ use std::marker::Model;
 /// A set of points.
 #[derive(Drop)]
 pub struct Region {
-    bands: Vec<Band>,
     rects: Vec<Rect>,
     extents: Rect,
 }
@@ -42,48 +42,51 @@ pub struct Region {
 impl Model for Region {
     ghost use Rattle.std.specs.Prelude.{List};
     ghost use Rattle.geom_base.specs.declared.rect.Rect.{Rect};
-    ghost use Rattle.region.specs.InnerColumns.{columns_of};
     ghost use Rattle.region.specs.InnerExtents.{IsKeptRegion};
 
     ghost Value = { List Rect };
 
     ghost view = { λ r. r.rects.items };
 
-    ghost invariant = { λ r. IsKeptRegion columns_of r.bands.items r.rects.items r.extents };
+    ghost invariant = { λ r. IsKeptRegion r.rects.items r.extents };
+}
+
+/// The region of a list that is one.
+fn region_of_rects(rects: Vec<Rect>) -> Region
+    requires region { IsRegion rects.items }
+    requires few { length rects.items ≤ most_rects }
+    ensures { result ≡ rects.items }
+{
+    let extents = extents_of(&rects);
+    Region { rects, extents }
 }
 
 /// The region of counted bands.
-pub fn region_of_list(alloc: Global, list: BandList) -> Result<Region, RegionRefusal>
-    requires { (bands : Bands) × IsCounted columns_of bands list.bands.items list.count × AreCanonical bands }
-    ensures { (bands : Bands) → IsCounted columns_of bands list.bands.items list.count → AreCanonical bands → IsAnswer (has_point bands) result }
+pub fn region_of_list(list: BandList) -> Result<Region, RegionRefusal>
+    requires { (set : Point → Bool) × IsBuilt most_rects set list }
+    ensures { (set : Point → Bool) → IsBuilt most_rects set list → IsAnswer set result }
 {
     if list.count > MOST_RECTS {
         return Err(RegionRefusal::TooMany(list.count));
     }
-    let rects = rects_of_bands(alloc, &list.bands)?;
-    let extents = extents_of(&rects);
-    Ok(Region {
-        bands: list.bands,
-        rects,
-        extents,
-    })
+    Ok(region_of_rects(list.rects))
 }
 
-/// The bands after an operation: none in common where the extents share no point.
-fn bands_after(
+/// The bands after an operation on the lists of two regions, of which so many rectangles are kept.
+fn combined_bands(
     alloc: Global,
     operation: Operation,
-    a: &Region,
-    b: &Region,
+    a: &[Rect],
+    b: &[Rect],
+    most: u64,
 ) -> Result<BandList, AllocError>
-    ensures { IfOk result (λ r. (bands : HeldBands) × IsKept columns_of bands r.bands.items r.count ×
-        AreBandsOf columns_of (λ p. holds_after operation (is_in_some p a.now) (is_in_some p b.now)) bands) }
+    requires left { IsRegion a.now }
+    requires right { IsRegion b.now }
+    ensures { IfOk result (IsBuilt most (λ p. holds_after operation (is_in_some p a.now) (is_in_some p b.now))) }
 {
-    let common = a.extents.intersect(b.extents);
-    match operation {
-        Operation::Intersect if !common.has_points() => Ok(BandList::new(alloc)),
-        _ => combined_bands(alloc, operation, &a.bands, &b.bands, BandList::new(alloc)),
-    }
+    let mut out = BandOutput::new(alloc, most);
+    sweep(operation, BandCursor::new(a), BandCursor::new(b), &mut out)?;
+    Ok(out.list)
 }
 
 impl Region {
@@ -92,8 +95,11 @@ impl Region {
         ensures answer { IsAnswer (λ p. is_in_some p rects.now) result }
         ensures canonical { Within rects.now → Gives (canonical_rects (λ p. is_in_some p rects.now)) result }
     {
+        if let Some(builder) = built_by_rows(alloc, rects)? {
+            return builder.finish();
+        }
         let bands = scanned_bands(alloc, rects)?;
-        region_of_list(alloc, bands)
+        region_of_list(bands)
     }
 
     /// The rectangles, from top to bottom and in a band from left to right.
@@ -118,8 +124,37 @@ impl Region {
         ensures canonical { Within self.now → Within other.now →
             Gives (canonical_rects (λ p. holds_after operation (is_in_some p self.now) (is_in_some p other.now))) result }
     {
-        let bands = bands_after(alloc, operation, self, other)?;
-        region_of_list(alloc, bands)
+        match operation {
+            Operation::Intersect if self.is_apart(other) => Ok(region_of_rects(Vec::new(alloc))),
+            Operation::Subtract if self.is_apart(other) => Ok(self.copied(alloc)?),
+            _ => {
+                let bands = combined_bands(
+                    alloc,
+                    operation,
+                    &self.rects,
+                    &other.rects,
+                    MOST_RECTS,
+                )?;
+                region_of_list(bands)
+            }
+        }
+    }
+
+    /// Whether the extents of the two share no point.
+    fn is_apart(&self, other: &Region) -> bool
+        ensures { IsTrue result → (p : Point) → (is_in_some p self.now && is_in_some p other.now) ≡ false }
+    {
+        !self.extents.intersect(other.extents).has_points()
+    }
+
+    /// The same points once more.
+    fn copied(&self, alloc: Global) -> Result<Region, AllocError>
+        ensures same { IfOk result (λ r. r ≡ self.now) }
+        ensures region { IfOk result IsRegion }
+        ensures few { IfOk result (λ r. length r ≤ most_rects) }
+    {
+        let rects = Vec::from_slice(alloc, &self.rects)?;
+        Ok(region_of_rects(rects))
     }
 
     /// The smallest rectangle that has all points; one without points where there are none.
@@ -140,7 +175,7 @@ impl Region {
     pub fn meets(&self, rect: &Rect) -> bool
         ensures { IsTrue result ↔ SharesPoint (λ p. is_in_some p self.now) rect.now }
     {
-        bands_meet(&self.bands, rect)
+        rects_meet(&self.rects, rect)
     }
 
     /// Whether all edges moved are from -32768 to 32767.
@@ -160,14 +195,8 @@ impl Region {
         ensures moved { IfOk result (λ r. r ≡ map (λ rect. moved_rect rect by) self.now) }
         ensures few { IfErr result (λ refusal. refusal ≡ RegionRefusal.NoMemory) }
     {
-        let bands = moved_bands(alloc, &self.bands, &by)?;
         let rects = moved_rects(alloc, &self.rects, &by)?;
-        let extents = extents_of(&rects);
-        Ok(Region {
-            bands,
-            rects,
-            extents,
-        })
+        Ok(region_of_rects(rects))
     }
 
     /// The rectangles of the points in a rectangle, however many.
@@ -186,15 +215,9 @@ impl Region {
         ensures region { IfOk result (λ r. IsRegionOf (λ p. is_in_some p self.now && is_in p bounds.now) r.items) }
         ensures in_order { IfOk result (λ r. IsInOrder r.items) }
     {
-        let frame = bands_of_rect(alloc, bounds)?;
-        let bands = combined_bands(
-            alloc,
-            Operation::Intersect,
-            &self.bands,
-            &frame,
-            Vec::new(alloc),
-        )?;
-        rects_of_bands(alloc, &bands)
+        let frame = rects_of_bounds(alloc, bounds)?;
+        let bands = combined_bands(alloc, Operation::Intersect, &self.rects, &frame, u64::MAX)?;
+        Ok(bands.rects)
     }
 
     /// The points of either.

@@ -4,16 +4,17 @@ ghost use Rattle.std.specs.Prelude.{◌≡◌, ◌<◌, ◌+◌, ◌^◌, ◌≤
 ghost use Rattle.std.specs.List.{All, filter};
 ghost use Rattle.geom_base.specs.Points.{is_in_some, has_points};
 ghost use Rattle.geom_base.specs.declared.point.Point.{Point};
-ghost use Rattle.region.specs.InnerColumns.{columns_of};
-ghost use Rattle.region.specs.Band.{Bands, has_point};
-ghost use Rattle.region.specs.InnerBandList.{AreCanonical, IsCounted};
+ghost use Rattle.region.specs.Limits.{most_rects};
+ghost use Rattle.region.specs.InnerColumns.{IsColumns};
+ghost use Rattle.region.specs.Band.{Bands};
+ghost use Rattle.region.specs.InnerSweep.{CanTake};
+ghost use Rattle.region.specs.InnerBandList.{IsBuilt, IsCounted};
 ghost use Rattle.region.specs.InnerCover.{strip_of, columns_in, IsCover};
 ghost use Rattle.region.specs.InnerEdges.{IsRising};
 ghost use Rattle.region.specs.InnerScan.{HasBothEdges, IsSolid, IsArranged, AreReady, BeginBelow, HaveBegun, IsNextRow};
 
-use crate::band_list::BandList;
+use crate::band_list::{BandList, MOST_RECTS};
 use crate::cover::Cover;
-use crate::step::Step;
 use geom_base::Rect;
 use std::alloc::{AllocError, Global};
 
@@ -106,9 +107,12 @@ fn push_band(
 ) -> Result<(), AllocError>
     requires cover { IsCover row.now cover.now }
     requires steady { row.now ≤ℤ (strip_of cover.now).steady }
+    requires columns { IsColumns (columns_in cover.now row.now) }
     requires room { bands.old.count + (strip_of cover.now).row.runs < 2 ^ 64 }
-    ensures { OnOk result ((lists : Bands) → IsCounted columns_of lists bands.old.bands.items bands.old.count →
-        IsCounted columns_of (lists ++ record { from = row.now; value = columns_in cover.now row.now } ∷ []) bands.new.bands.items bands.new.count) }
+    requires counted { (lists : Bands) × IsCounted bands.old lists × CanTake IsColumns row.now lists }
+    ensures counted { OnOk result ((lists : Bands) → IsCounted bands.old lists → CanTake IsColumns row.now lists →
+        IsCounted bands.new (lists ++ record { from = row.now; value = columns_in cover.now row.now } ∷ [])) }
+    ensures most { OnOk result (bands.new.most ≡ bands.old.most) }
 {
     let runs = cover.strip().row.runs;
     if bands.is_past(runs) {
@@ -116,13 +120,7 @@ fn push_band(
         return Ok(());
     }
     let columns = cover.columns(alloc, row)?;
-    bands.keep(
-        Step {
-            from: *row,
-            value: columns,
-        },
-        runs,
-    )
+    bands.begin(*row, columns.spans())
 }
 
 /// Whether three numbers are equal.
@@ -134,10 +132,9 @@ fn are_equal(a: u64, b: u64, c: u64) -> bool
 
 /// The bands of the rectangles, counted.
 pub fn scanned_bands(alloc: Global, rects: &[Rect]) -> Result<BandList, AllocError>
-    ensures { IfOk result (λ r. (bands : Bands) × AreCanonical bands ×
-        ((p : Point) → has_point bands p ≡ is_in_some p rects.now) × IsCounted columns_of bands r.bands.items r.count) }
+    ensures { IfOk result (IsBuilt most_rects (λ p. is_in_some p rects.now)) }
 {
-    let mut bands = BandList::new(alloc);
+    let mut bands = BandList::new(alloc, MOST_RECTS);
     let sorted = sorted_rects(alloc, rects)?;
     let [first, ..] = sorted.as_slice() else {
         return Ok(bands);

@@ -4,9 +4,9 @@ ghost use Rattle.std.specs.Prelude.{◌≡◌, ℤ, IfOk};
 ghost use Rattle.region.specs.Columns.{has_column};
 ghost use Rattle.region.specs.InnerColumns.{IsColumns};
 ghost use Rattle.region.specs.Spans.{in_spans, AreSpans};
+ghost use Rattle.region.specs.InnerSpanList.{span_steps};
 
-use crate::runs::{begin_run, end_run, end_run_before};
-use crate::step::Step;
+use crate::span_list::SpanList;
 use std::alloc::{AllocError, Global};
 
 /// Columns of a row, from the left one to before the right one.
@@ -16,19 +16,21 @@ pub struct Span {
     pub right: i32,
 }
 
-/// The columns of spans.
-pub fn columns_of_spans(alloc: Global, spans: &[Span]) -> Result<Vec<Step<bool>>, AllocError>
+/// Spans that do not touch, with the same columns.
+pub fn joined_spans(alloc: Global, spans: &[Span]) -> Result<SpanList, AllocError>
     requires { AreSpans spans.now }
-    ensures columns { IfOk result (λ r. IsColumns r.items) }
-    ensures points { IfOk result (λ r. (x : ℤ) → has_column r.items x ≡ in_spans x spans.now) }
+    ensures columns { IfOk result (λ r. IsColumns (span_steps r.spans.items)) }
+    ensures points { IfOk result (λ r. (x : ℤ) → has_column (span_steps r.spans.items) x ≡ in_spans x spans.now) }
 {
-    let mut columns = Vec::with_capacity(alloc, 2 * spans.len())?;
+    let mut row = SpanList::new(alloc);
     let mut end = i32::MIN;
     for span in spans {
-        end_run_before(&mut columns, false, end, span.left)?;
-        begin_run(&mut columns, &false, span.left, true)?;
+        if end < span.left {
+            row.turn(end, false)?;
+        }
+        row.turn(span.left, true)?;
         end = span.right;
     }
-    end_run(&mut columns, false, end)?;
-    Ok(columns)
+    row.turn(end, false)?;
+    Ok(row)
 }

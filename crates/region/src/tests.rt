@@ -86,23 +86,19 @@ fn overlapping(rt: HostRuntime) -> Result<(), Fail> {
 
 #[test]
 fn inside_with_a_rectangle_without_points(rt: HostRuntime) -> Result<(), Fail> {
+    let around = [
+        rect(0, 0, 6, 2),
+        rect(0, 2, 2, 4),
+        rect(4, 2, 6, 4),
+        rect(0, 4, 6, 6),
+    ];
     let case = Case {
         a: &[rect(0, 0, 6, 6), rect(3, 3, 3, 9)],
         b: &[rect(2, 2, 4, 4)],
         union: &[rect(0, 0, 6, 6)],
         intersect: &[rect(2, 2, 4, 4)],
-        subtract: &[
-            rect(0, 0, 6, 2),
-            rect(0, 2, 2, 4),
-            rect(4, 2, 6, 4),
-            rect(0, 4, 6, 6),
-        ],
-        xor: &[
-            rect(0, 0, 6, 2),
-            rect(0, 2, 2, 4),
-            rect(4, 2, 6, 4),
-            rect(0, 4, 6, 6),
-        ],
+        subtract: &around,
+        xor: &around,
     };
     compare(&rt, rt.alloc(), &case)
 }
@@ -213,10 +209,8 @@ fn one_line_past_the_limit(rt: HostRuntime) -> Result<(), Fail> {
         let x = 2 * i as i32;
         rects.push(rect(x, 0, x + 1, 1))?;
     }
-    assert_eq!(rt;
-        Region::from_rects(alloc, &rects).err(),
-        Some(RegionRefusal::TooMany(4097))
-    );
+    let many = Region::from_rects(alloc, &rects).err();
+    assert_eq!(rt; many, Some(RegionRefusal::TooMany(4097)));
     let _ = rects.pop();
     assert_eq!(rt; Region::from_rects(alloc, &rects)?.rects().len(), 4096);
     Ok(())
@@ -257,11 +251,8 @@ fn stripes_across_stripes(rt: HostRuntime) -> Result<(), Fail> {
     let many = Region::from_rects(alloc, &rects).err();
     assert_eq!(rt; many, Some(RegionRefusal::TooMany(4970)));
     rects.push(rect(0, 0, 140, 140))?;
-    let whole = [rect(0, 0, 140, 140)];
-    assert_eq!(rt;
-        Region::from_rects(alloc, &rects)?.rects(),
-        whole.as_slice()
-    );
+    let whole = Region::from_rects(alloc, &rects)?;
+    assert_eq!(rt; whole.rects(), [rect(0, 0, 140, 140)].as_slice());
     Ok(())
 }
 
@@ -297,6 +288,47 @@ fn built_row_by_row(rt: HostRuntime) -> Result<(), Fail> {
     builder.push_row(6, 7, &[Span { left: 1, right: 2 }])?;
     let want = [rect(0, 0, 5, 4), rect(7, 0, 9, 4), rect(1, 6, 2, 7)];
     assert_eq!(rt; builder.finish()?.rects(), want.as_slice());
+    Ok(())
+}
+
+#[test]
+fn rows_and_the_same_in_reverse(rt: HostRuntime) -> Result<(), Fail> {
+    let alloc = rt.alloc();
+    let cases: [(&[Rect], &[Rect]); 6] = [
+        (&[], &[]),
+        (
+            &[rect(0, 0, 2, 1), rect(2, 0, 3, 1), rect(5, 0, 6, 1)],
+            &[rect(0, 0, 3, 1), rect(5, 0, 6, 1)],
+        ),
+        (
+            &[
+                rect(0, 0, 2, 1),
+                rect(4, 0, 6, 1),
+                rect(0, 1, 2, 3),
+                rect(4, 1, 6, 3),
+                rect(0, 4, 2, 5),
+            ],
+            &[rect(0, 0, 2, 3), rect(4, 0, 6, 3), rect(0, 4, 2, 5)],
+        ),
+        (
+            &[rect(0, 0, 2, 1), rect(3, 0, 3, 1), rect(4, 0, 3, 1)],
+            &[rect(0, 0, 2, 1)],
+        ),
+        (
+            &[rect(0, 0, 4, 2), rect(2, 0, 6, 2), rect(0, 1, 6, 3)],
+            &[rect(0, 0, 6, 3)],
+        ),
+        (
+            &[rect(0, 0, 2, 2), rect(3, 0, 5, 3)],
+            &[rect(0, 0, 2, 2), rect(3, 0, 5, 2), rect(3, 2, 5, 3)],
+        ),
+    ];
+    for (rects, want) in cases {
+        let mut reversed = Vec::from_slice(alloc, rects)?;
+        reversed.reverse();
+        assert_eq!(rt; Region::from_rects(alloc, rects)?.rects(), want);
+        assert_eq!(rt; Region::from_rects(alloc, &reversed)?.rects(), want);
+    }
     Ok(())
 }
 

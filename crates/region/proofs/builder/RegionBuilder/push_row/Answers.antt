@@ -1,39 +1,29 @@
-use Rattle.std.proofs.Common.{arith, ℤ, Bool, rules, SFits, w32}
+use Rattle.std.proofs.Common.{◌≡◌, ℤ, arith, sym, subst, rules, SFits, w32}
 use Rattle.std.proofs.lemmas.Int.{ints, to_z-of_z}
-use Rattle.geom_base.specs.Points.{is_in_some}
 use Rattle.region.specs.Columns.{has_column}
-use Rattle.region.specs.InnerColumns.{IsColumns, columns_of}
-use Rattle.region.specs.Canonical.{point_from}
-use Rattle.region.proofs.BuilderLemmas.{row_runs}
+use Rattle.region.specs.Spans.{in_spans}
+use Rattle.region.specs.InnerSpanList.{span_steps}
+use Rattle.region.proofs.BuilderLemmas.{rows_above, rows_take, rows_more}
 use Rattle.region.proofs.builder.RegionBuilder.push_row.Goals as goal
 
-pub end_run_before-requires-clause-order : goal.end_run_before-requires-clause-order
-end_run_before-requires-clause-order c =
-    let h = c.requires.below in
-    let end_fits : SFits w32 c.args.self.now.bottom = search rules in
-    let top_fits : SFits w32 c.args.top = search rules in
-    rw (to_z-of_z w32 c.args.self.now.bottom end_fits, to_z-of_z w32 c.args.top top_fits) (omega (arith, ints, h.2.above, h.3))
-
-pub begin_run-requires-clause-runs : goal.begin_run-requires-clause-runs
-begin_run-requires-clause-runs c =
-    let h = c.requires.below.2 in
-    let end_fits : SFits w32 c.args.self.now.bottom = search rules in
-    let e = (rw (to_z-of_z w32 c.args.self.now.bottom end_fits) at c.in_ok-end_run_before.ensures) _ h.bands h.kept h.runs in
-    (_, e.0, e.1, e.2)
+pub put_row-requires-clause-bands : goal.put_row-requires-clause-bands
+put_row-requires-clause-bands c =
+    let below = c.requires.below in
+    let top = c.args.top in
+    let fits : SFits w32 top = search rules in
+    rw (to_z-of_z w32 top fits) (rows_take below.0 top c.end_before.new.self.list
+    ((rw (to_z-of_z w32 top fits) at c.in_ok-end_before.ensures) below.0 (rows_above below.0 below.1 top c.args.self.now below.2 below.3)))
 
 pub returns : goal.returns
 returns c = λ pushed end h above.
-    let end_fits : SFits w32 c.args.self.now.bottom = search rules in
-    let top_fits : SFits w32 c.args.top = search rules in
-    let bottom_fits : SFits w32 c.args.bottom = search rules in
-    let top = to_z-of_z w32 c.args.top top_fits in
-    let set : ℤ → ℤ → Bool = λ y x. is_in_some (point_from x y) pushed in
-    let e = (rw (to_z-of_z w32 c.args.self.now.bottom end_fits, top) at c.in_ok-end_run_before.ensures) set h.bands h.kept h.runs in
-    let b = (rw top at c.in_ok-begin_run.ensures) set e.0 c.args.bottom e.1 e.2 c.requires.rows in
-    rw (to_z-of_z w32 c.args.bottom bottom_fits) (record {
-      bands = b.0;
-      kept = b.1;
-      runs = row_runs (λ v x. has_column (columns_of v) x) (λ v. IsColumns (columns_of v)) pushed c.args.top c.args.bottom c.in_ok-columns.columns.items
-          c.args.spans.now b.0 c.in_ok-columns.ensures.points b.2;
+    let top = c.args.top in
+    let bottom = c.args.bottom in
+    let top_fits : SFits w32 top = search rules in
+    let bottom_fits : SFits w32 bottom = search rules in
+    let rows = (rw (to_z-of_z w32 top top_fits) at c.in_ok-end_before.ensures) pushed (rows_above pushed end top c.args.self.now h above) in
+    let points = subst (λ row. (x : ℤ) → has_column (span_steps row) x ≡ in_spans x c.args.spans.now) (sym c.spans.ensures) c.in_ok-row.ensures.points in
+    rw (to_z-of_z w32 bottom bottom_fits) (record {
+      rows = rows_more pushed top bottom c.spans.result.now c.args.spans.now c.end_before.new.self.list c.put_row.new.self rows c.requires.rows top_fits
+          points (rw (to_z-of_z w32 top top_fits) at c.in_ok-put_row.ensures.put) c.in_ok-put_row.ensures.most;
       above = omega (arith, ints);
     })

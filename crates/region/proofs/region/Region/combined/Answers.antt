@@ -1,24 +1,35 @@
-use Rattle.region.specs.InnerColumns.{columns_of}
-use Rattle.region.specs.Band.{has_point}
-use Rattle.region.specs.InnerBand.{lists_of}
-use Rattle.region.proofs.CountLemmas.{kept_is_counted, held_are_canonical}
+use Rattle.std.proofs.Common.{ap, ◌∙◌, refl, Ok}
+use Rattle.geom_base.specs.Points.{is_in_some}
+use Rattle.region.specs.Operation.{holds_after}
+use Rattle.region.proofs.KeptLemmas.{built_alike}
+use Rattle.region.proofs.ApartLemmas.{apart_intersect, apart_subtract}
 use Rattle.region.proofs.CanonicalLaws.{operation_is_canonical}
-use Rattle.region.proofs.RegionLemmas.{answer_same}
 use Rattle.region.proofs.region.Region.combined.Goals as goal
 
-pub region_of_list-requires : goal.region_of_list-requires
-region_of_list-requires c =
-    let b = c.in_ok-bands.ensures in (
-      lists_of columns_of b.0,
-      kept_is_counted columns_of b.0 c.in_ok-bands.bands.bands.items c.in_ok-bands.bands.count b.1,
-      held_are_canonical columns_of b.0 b.2.held,
-    )
+pub returns-in-Intersect-clause-answer : goal.returns-in-Intersect-clause-answer
+returns-in-Intersect-clause-answer c = rw c.in-Intersect.is (apart_intersect c.args.self.now c.args.other.now c.region_of_rects.result
+    (c.is_apart.ensures c.if-is_apart.true) (c.region_of_rects.ensures ∙ c.new.ensures.items))
 
-pub returns-clause-answer : goal.returns-clause-answer
-returns-clause-answer c =
-    let b = c.in_ok-bands.ensures in
-    answer_same (has_point (lists_of columns_of b.0)) _ (λ p. b.2.points p) c.region_of_list.result (c.region_of_list.ensures (lists_of columns_of b.0)
-    (kept_is_counted columns_of b.0 c.in_ok-bands.bands.bands.items c.in_ok-bands.bands.count b.1) (held_are_canonical columns_of b.0 b.2.held))
+pub returns-in_ok-copied-in-Subtract-clause-answer : goal.returns-in_ok-copied-in-Subtract-clause-answer
+returns-in_ok-copied-in-Subtract-clause-answer c =
+    let e = c.in_ok-copied-in-Subtract.ensures in
+    rw c.in-Subtract.is (apart_subtract c.args.self.now c.args.other.now _ (c.if-is_apart-2.ensures refl) e.region e.few e.same)
 
-pub returns-clause-canonical : goal.returns-clause-canonical
-returns-clause-canonical c = λ left right. operation_is_canonical c.args.operation c.args.self.now c.args.other.now _ left right (returns-clause-answer c)
+pub returns-in-Intersect-clause-canonical : goal.returns-in-Intersect-clause-canonical
+returns-in-Intersect-clause-canonical c = λ left right. operation_is_canonical c.args.operation c.args.self.now c.args.other.now (Ok c.region_of_rects.result) left right
+    (returns-in-Intersect-clause-answer c)
+
+pub returns-in_ok-copied-in-Subtract-clause-canonical : goal.returns-in_ok-copied-in-Subtract-clause-canonical
+returns-in_ok-copied-in-Subtract-clause-canonical c = λ left right. operation_is_canonical c.args.operation c.args.self.now c.args.other.now
+    (Ok c.in_ok-copied-in-Subtract.field-0) left right (returns-in_ok-copied-in-Subtract-clause-answer c)
+
+pub returns-in_ok-bands-in_default-clause-answer : goal.returns-in_ok-bands-in_default-clause-answer
+returns-in_ok-bands-in_default-clause-answer c =
+    let op = holds_after c.args.operation in
+    c.region_of_list.ensures _ (built_alike 4096 _ _ c.in_ok-bands-in_default.bands
+    (λ p. ap (λ l. op (is_in_some p l) (is_in_some p c.deref-in_default.result.now)) (c.deref.ensures.value ∙ c.self.view_is)
+    ∙ ap (λ l. op (is_in_some p c.args.self.now) (is_in_some p l)) (c.deref-in_default.ensures.value ∙ c.other.view_is)) c.in_ok-bands-in_default.ensures)
+
+pub returns-in_ok-bands-in_default-clause-canonical : goal.returns-in_ok-bands-in_default-clause-canonical
+returns-in_ok-bands-in_default-clause-canonical c = λ left right. operation_is_canonical c.args.operation c.args.self.now c.args.other.now _ left right
+    (returns-in_ok-bands-in_default-clause-answer c)

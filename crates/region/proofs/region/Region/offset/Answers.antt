@@ -1,47 +1,37 @@
-use Rattle.std.proofs.Common.{◌∙◌, ap, sym, subst, map, Ok}
-use Rattle.std.specs.List.{All}
-use Rattle.geom_base.specs.Points.{HasPoints, moved_rect}
-use Rattle.region.specs.Extents.{AreExtents}
-use Rattle.region.specs.InnerColumns.{columns_of}
-use Rattle.region.specs.InnerBand.{IsListed, lists_of}
-use Rattle.region.specs.InnerMoved.{moved_bands, CanMoveBand}
+use Rattle.std.proofs.Common.{◌≡◌, ◌≤◌, ◌∙◌, List, refl, ap, sym, subst, map, length, Ok}
+use Rattle.std.proofs.lemmas.List.{length-map}
+use Rattle.geom_base.specs.declared.point.Point.{Point}
+use Rattle.geom_base.specs.declared.rect.Rect.{Rect}
+use Rattle.geom_base.specs.Points.{is_in_some, moved_rect}
+use Rattle.region.specs.Region.{IsRegion}
 use Rattle.region.proofs.CanonicalLaws.{moved_is_canonical}
-use Rattle.region.proofs.OrderLemmas.{region_in_order}
-use Rattle.region.proofs.RegionLemmas.{listed_is_region}
 use Rattle.region.proofs.MoveLemmas.{moved_answer}
-use Rattle.region.proofs.BandMoveLemmas.{listed_moves, listed_moved}
+use Rattle.region.proofs.MovedLaws.{region_moves}
 use Rattle.region.proofs.region.Region.offset.Goals as goal
 
-pub moved_bands-requires : goal.moved_bands-requires
-moved_bands-requires c = subst (All (CanMoveBand columns_of c.args.by)) (sym c.deref.ensures.value)
-    (listed_moves columns_of c.args.by c.self.inside.bands.items c.args.self.now
-    (subst (IsListed columns_of c.self.inside.bands.items) c.self.view_is c.self.invariant.listed) c.requires)
+-- the moved list is a region, and as long
+moved_region : (by : Point) (rects moved : List Rect) → IsRegion rects → moved ≡ map (λ rect. moved_rect rect by) rects → IsRegion moved
+moved_region by rects moved h e =
+    subst IsRegion (sym e) (region_moves (λ p. is_in_some p rects) rects by (record { canonical = h; points = λ p. refl })).canonical
 
-pub extents_of-extents-requires : goal.extents_of-extents-requires
-extents_of-extents-requires c =
-    let own = subst (IsListed columns_of c.self.inside.bands.items) c.self.view_is c.self.invariant.listed in
-    let items = c.in_ok-rects.ensures ∙ ap (map (λ rect. moved_rect rect c.args.by)) (c.deref-2.ensures.value ∙ c.self.view_is) in
-    let listed = listed_moved columns_of c.args.by c.self.inside.bands.items c.in_ok-bands.bands.items c.args.self.now c.in_ok-rects.rects.items own c.requires
-    (c.in_ok-bands.ensures ∙ ap (λ l. moved_bands c.args.by (lists_of columns_of l)) c.deref.ensures.value) items in
-    subst (All HasPoints) (sym c.deref-3.ensures.value)
-    (region_in_order c.in_ok-rects.rects.items (listed_is_region columns_of c.in_ok-bands.bands.items c.in_ok-rects.rects.items listed)).points
+moved_few : (by : Point) (rects moved : List Rect) → length rects ≤ 4096 → moved ≡ map (λ rect. moved_rect rect by) rects → length moved ≤ 4096
+moved_few by rects moved h e = subst (λ n. n ≤ 4096) (sym (ap length e ∙ length-map rects (λ rect. moved_rect rect by))) h
 
-pub invariant_of-result : goal.invariant_of-result
-invariant_of-result c =
-    let own = subst (IsListed columns_of c.self.inside.bands.items) c.self.view_is c.self.invariant.listed in
-    let items = c.in_ok-rects.ensures ∙ ap (map (λ rect. moved_rect rect c.args.by)) (c.deref-2.ensures.value ∙ c.self.view_is) in
-    record {
-      listed = listed_moved columns_of c.args.by c.self.inside.bands.items c.in_ok-bands.bands.items c.args.self.now c.in_ok-rects.rects.items own c.requires
-          (c.in_ok-bands.ensures ∙ ap (λ l. moved_bands c.args.by (lists_of columns_of l)) c.deref.ensures.value) items;
-      extents = subst (λ l. AreExtents l c.extents_of-extents.result) c.deref-3.ensures.value c.extents_of-extents.ensures;
-    }
+pub region_of_rects-requires-clause-region : goal.region_of_rects-requires-clause-region
+region_of_rects-requires-clause-region c = moved_region c.args.by c.self.inside.rects.items c.in_ok-rects.rects.items c.self.invariant.region
+    (c.in_ok-rects.ensures ∙ ap (map (λ rect. moved_rect rect c.args.by)) c.deref.ensures.value)
+
+pub region_of_rects-requires-clause-few : goal.region_of_rects-requires-clause-few
+region_of_rects-requires-clause-few c = moved_few c.args.by c.self.inside.rects.items c.in_ok-rects.rects.items c.self.invariant.few
+    (c.in_ok-rects.ensures ∙ ap (map (λ rect. moved_rect rect c.args.by)) c.deref.ensures.value)
 
 pub returns-clause-answer : goal.returns-clause-answer
 returns-clause-answer c =
-    let items = c.in_ok-rects.ensures ∙ ap (map (λ rect. moved_rect rect c.args.by)) (c.deref-2.ensures.value ∙ c.self.view_is) in
-    let listed = (invariant_of-result c).listed in
-    moved_answer c.args.by c.args.self.now c.in_ok-rects.rects.items (listed_is_region columns_of c.in_ok-bands.bands.items c.in_ok-rects.rects.items listed)
-    listed.few items
+    let from = c.in_ok-rects.ensures ∙ ap (map (λ rect. moved_rect rect c.args.by)) c.deref.ensures.value in
+    let items = c.region_of_rects.ensures ∙ c.in_ok-rects.ensures ∙ ap (map (λ rect. moved_rect rect c.args.by)) (c.deref.ensures.value ∙ c.self.view_is) in
+    moved_answer c.args.by c.args.self.now c.region_of_rects.result
+    (subst IsRegion (sym c.region_of_rects.ensures) (moved_region c.args.by c.self.inside.rects.items c.in_ok-rects.rects.items c.self.invariant.region from))
+    (subst (λ l. length l ≤ 4096) (sym c.region_of_rects.ensures) (moved_few c.args.by c.self.inside.rects.items c.in_ok-rects.rects.items c.self.invariant.few from)) items
 
 pub returns-clause-canonical : goal.returns-clause-canonical
-returns-clause-canonical c = λ within. moved_is_canonical c.args.by c.args.self.now (Ok c.in_ok-rects.rects.items) within (returns-clause-answer c)
+returns-clause-canonical c = λ within. moved_is_canonical c.args.by c.args.self.now (Ok c.region_of_rects.result) within (returns-clause-answer c)

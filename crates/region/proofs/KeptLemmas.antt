@@ -1,0 +1,279 @@
+-- Bands whose rectangles are counted and kept.
+use Rattle.std.proofs.Common.{◌≡◌, ◌∙◌, ℕ, ℤ, ◌+◌, ◌≤◌, List, [], ◌∷◌, ◌++◌, map, length, take, drop, pos, Bool, false, refl, ap, sym, subst, arith}
+use Rattle.std.proofs.Common.{length-append, append-nil, append_assoc, take-append-drop, add-one, suc, zero, ◌<◌, ◌^◌, FitsSigned, w32}
+use Rattle.std.specs.Prelude.{slice_set, slice_index_or}
+use Rattle.geom_base.specs.declared.point.Point.{Point}
+use Rattle.geom_base.specs.declared.rect.Rect.{Rect}
+use Rattle.region.specs.declared.span.Span.{Span}
+use Rattle.region.specs.declared.band_list.BandList.{BandList}
+use Rattle.region.specs.Steps.{Step, final_value}
+use Rattle.region.specs.Columns.{Columns, has_column}
+use Rattle.region.specs.Band.{Bands, row_rects, rects_of}
+use Rattle.region.specs.Spans.{rects_of_spans}
+use Rattle.region.specs.Region.{IsRegionOf}
+use Rattle.region.specs.InnerSpanList.{span_steps}
+use Rattle.region.specs.InnerBandList.{ended_at, run_count, IsKept, IsCounted, IsBuilt}
+use Rattle.region.specs.InnerSpanList.{span_of}
+use Rattle.region.proofs.StepLemmas.{final_is_valid, final_value-push, IsOrdered-push, AllFit-push, AllValid-push}
+use Rattle.region.proofs.CountLemmas.{rects_are_counted, rect_count-push, count_fits}
+use Rattle.region.specs.InnerColumns.{IsColumns}
+use Rattle.region.specs.InnerSweep.{AreStepsOf, CanTake, IsPut}
+use Rattle.region.proofs.RegionLemmas.{held_no_columns, no_columns, values_of, region_of_canonical, region_same}
+use Rattle.region.proofs.UniqueLemmas.{same_columns}
+use Rattle.std.proofs.lemmas.List.{length-map, map-append, take_more}
+use Rattle.std.proofs.Common.{◌⊎◌, inl, inr, get_or}
+
+-- the rectangles of a row of spans
+pub spans_are_listed : (top bottom : ℤ) (spans : List Span) → row_rects top bottom (span_steps spans) ≡ rects_of_spans top bottom spans
+spans_are_listed top bottom [] = refl
+spans_are_listed top bottom (s ∷ []) = refl
+spans_are_listed top bottom (s ∷ t ∷ spans) = ap (λ u. record { left = s.left; top = top; right = s.right; bottom = bottom } ∷ u)
+    (spans_are_listed top bottom (t ∷ spans))
+
+pub spans_are_counted : (spans : List Span) → run_count (span_steps spans) ≡ length spans
+spans_are_counted [] = refl
+spans_are_counted (s ∷ spans) = let rest = spans_are_counted spans in omega (arith, rest)
+
+pub span_steps_same : (a b : List Span) → span_steps a ≡ span_steps b → a ≡ b
+span_steps_same [] [] e = refl
+span_steps_same [] (t ∷ b) e = absurd (omega (arith, ap length e))
+span_steps_same (s ∷ a) [] e = absurd (omega (arith, ap length e))
+span_steps_same (s ∷ a) (t ∷ b) e =
+    let left : s.left ≡ t.left = ap (first_place s.left) e in
+    let right : s.right ≡ t.right = ap (λ l. first_place s.left (rest_of l)) e in
+    let rest : span_steps a ≡ span_steps b = ap (λ l. rest_of (rest_of l)) e in
+    ap (λ x. record { left = x; right = s.right } ∷ a) left ∙ ap (λ x. record { left = t.left; right = x } ∷ a) right ∙ ap (λ l. t ∷ l) (span_steps_same a b rest)
+  where
+    first_place : ℤ → Columns → ℤ
+    first_place z [] = z
+    first_place z (s ∷ steps) = s.from
+
+    rest_of : Columns → Columns
+    rest_of [] = []
+    rest_of (s ∷ steps) = steps
+
+no_spans : (spans : List Span) → [] ≡ span_steps spans → spans ≡ []
+no_spans [] e = refl
+no_spans (s ∷ spans) e = absurd (omega (arith, ap length e))
+
+-- bands with a step more at the end
+closed : (bands : Bands) (s : Step Columns) → final_value [] bands ≡ [] → rects_of (λ c. c) (bands ++ s ∷ []) ≡ rects_of (λ c. c) bands
+closed [] s e = refl
+closed (b ∷ []) s e = rw e refl
+closed (b ∷ c ∷ bands) s e = ap (λ u. row_rects b.from c.from b.value ++ u) (closed (c ∷ bands) s e)
+
+one_more : (bands : Bands) (s t : Step Columns) →
+    rects_of (λ c. c) ((bands ++ s ∷ []) ++ t ∷ []) ≡ rects_of (λ c. c) (bands ++ s ∷ []) ++ row_rects s.from t.from s.value
+one_more [] s t = append-nil (row_rects s.from t.from s.value)
+one_more (b ∷ []) s t =
+    ap (λ u. row_rects b.from s.from b.value ++ u) (append-nil (row_rects s.from t.from s.value))
+    ∙ ap (λ u. u ++ row_rects s.from t.from s.value) (sym (append-nil (row_rects b.from s.from b.value)))
+one_more (b ∷ c ∷ bands) s t =
+    ap (λ u. row_rects b.from c.from b.value ++ u) (one_more (c ∷ bands) s t)
+    ∙ sym (append_assoc (row_rects b.from c.from b.value) (rects_of (λ c. c) ((c ∷ bands) ++ s ∷ [])) (row_rects s.from t.from s.value))
+
+-- parts of a list
+take_all : (a b : List Rect) → take (length a) (a ++ b) ≡ a
+take_all [] b = refl
+take_all (r ∷ a) b = ap (λ u. r ∷ u) (take_all a b)
+
+drop_all : (a b : List Rect) → drop (length a) (a ++ b) ≡ b
+drop_all [] b = refl
+drop_all (r ∷ a) b = drop_all a b
+
+ended_spans : (from top place : ℤ) (spans : List Span) → map (ended_at place) (rects_of_spans top from spans) ≡ rects_of_spans top place spans
+ended_spans from top place [] = refl
+ended_spans from top place (s ∷ spans) = ap (λ u. record { left = s.left; top = top; right = s.right; bottom = place } ∷ u) (ended_spans from top place spans)
+
+pub ended_next : (place : ℤ) (old items : List Rect) (i : ℕ) (d : Rect) → i < length old → items ≡ map (ended_at place) (take i old) ++ drop i old →
+    slice_set items i (ended_at place (slice_index_or items i d)) ≡ map (ended_at place) (take (i + 1) old) ++ drop (i + 1) old
+ended_next place old items i d lt e = ap (λ l. slice_set l i (ended_at place (slice_index_or l i d))) e ∙ step old i lt
+    ∙ ap (λ n. map (ended_at place) (take n old) ++ drop n old) (sym (add-one i))
+  where
+    step : (old : List Rect) (i : ℕ) → i < length old →
+        slice_set (map (ended_at place) (take i old) ++ drop i old) i (ended_at place (slice_index_or (map (ended_at place) (take i old) ++ drop i old) i d)) ≡
+        map (ended_at place) (take (suc i) old) ++ drop (suc i) old
+    step [] i lt = absurd (omega (arith, lt))
+    step (r ∷ old) zero lt = refl
+    step (r ∷ old) (suc i) lt = ap (λ l. ended_at place r ∷ l) (step old i (omega (arith, lt)))
+
+-- no bands
+pub kept_none : (list : BandList) → list.count ≡ 0 → list.ended ≡ 0 → list.rects.items ≡ [] → IsKept list []
+kept_none list count ended items = record {
+  row = [];
+  from = pos 0;
+  number = count;
+  within = rw (ended, items) (omega arith);
+  value = refl;
+  last = rw (ended, items) refl;
+  all = λ few to columns. sym (ap (λ n. take n list.rects.items ++ []) ended ∙ ap (λ l. take 0 l ++ []) items);
+}
+
+-- a band more
+pub kept_more : (old new : BandList) (bands : Bands) (place : ℤ) (spans : List Span) (rects : List Rect) → IsKept old bands →
+    new.count ≡ old.count + length spans → new.most ≡ old.most → new.rects.items ≡ rects ++ rects_of_spans place place spans → new.ended ≡ length rects →
+    (new.count ≤ old.most → rects ≡ take old.ended old.rects.items ++ map (ended_at place) (drop old.ended old.rects.items)) →
+    IsKept new (bands ++ record { from = place; value = span_steps spans } ∷ [])
+kept_more old new bands place spans rects k count most items ended few =
+    let b : Step Columns = record { from = place; value = span_steps spans } in
+    record {
+      row = spans;
+      from = place;
+      number = let m = rect_count-push bands b in let l = spans_are_counted spans in omega (arith, m, l, count, k.number);
+      within = subst (λ n. n ≤ length new.rects.items) (sym ended) (subst (λ l. length rects ≤ length l) (sym items)
+          (let n = length-append rects (rects_of_spans place place spans) in omega (arith, n)));
+      value = final_value-push [] bands b;
+      last = ap (λ n. drop n new.rects.items) ended ∙ ap (drop (length rects)) items ∙ drop_all rects (rects_of_spans place place spans);
+      all = λ few_now to columns.
+          let within_most : new.count ≤ old.most = subst (λ n. new.count ≤ n) most few_now in
+          let whole : rects ≡ rects_of (λ c. c) (bands ++ b ∷ []) =
+          few within_most
+          ∙ ap (λ l. take old.ended old.rects.items ++ map (ended_at place) l) k.last
+          ∙ ap (λ l. take old.ended old.rects.items ++ l) (ended_spans k.from k.from place k.row)
+          ∙ sym (k.all (omega (arith, count, within_most)) place (span_steps spans)) in
+          one_more bands b (record { from = to; value = columns })
+          ∙ ap (λ u. rects_of (λ c. c) (bands ++ b ∷ []) ++ u) (spans_are_listed place to spans)
+          ∙ ap (λ u. u ++ rects_of_spans place to spans) (sym whole ∙ sym (take_all rects (rects_of_spans place place spans))
+          ∙ ap (take (length rects)) (sym items) ∙ ap (λ n. take n new.rects.items) (sym ended));
+    }
+
+pub counted_more : (old new : BandList) (bands : Bands) (place : ℤ) (spans : List Span) (rects : List Rect) → IsCounted old bands →
+    new.count ≡ old.count + length spans → new.most ≡ old.most → new.rects.items ≡ rects ++ rects_of_spans place place spans → new.ended ≡ length rects →
+    (new.count ≤ old.most → rects ≡ take old.ended old.rects.items ++ map (ended_at place) (drop old.ended old.rects.items)) →
+    IsCounted new (bands ++ record { from = place; value = span_steps spans } ∷ [])
+counted_more old new bands place spans rects k count most items ended few =
+    let b : Step Columns = record { from = place; value = span_steps spans } in
+    record {
+      number = let m = rect_count-push bands b in let l = spans_are_counted spans in omega (arith, m, l, count, k.number);
+      within = subst (λ n. n ≤ length new.rects.items) (sym ended) (subst (λ l. length rects ≤ length l) (sym items)
+          (let n = length-append rects (rects_of_spans place place spans) in omega (arith, n)));
+      few = λ few_now. kept_more old new bands place spans rects (k.few (let m : new.count ≤ old.most = subst (λ n. new.count ≤ n) most few_now in
+          omega (arith, count, m))) count most items ended few;
+    }
+
+-- a number of 64 bits has room for a band more
+pub counted_room : (list : BandList) (bands : Bands) (place : ℤ) (spans : List Span) → IsCounted list bands → CanTake IsColumns place bands →
+    IsColumns (span_steps spans) → FitsSigned w32 place → list.count + length spans < 2 ^ 64
+counted_room list bands place spans k take columns fits =
+    let b : Step Columns = record { from = place; value = span_steps spans } in
+    let n = count_fits (bands ++ b ∷ []) (IsOrdered-push bands b take.ordered take.before) (AllFit-push bands b take.fits fits)
+    (AllValid-push IsColumns bands b take.values columns) in
+    let m = rect_count-push bands b in
+    let l = spans_are_counted spans in
+    omega (arith, n, m, l, k.number)
+
+-- what is kept is counted
+pub kept_is_counted : (list : BandList) (bands : Bands) → IsKept list bands → IsCounted list bands
+kept_is_counted list bands k = record { number = k.number; within = k.within; few = λ few. k }
+
+-- the list of counted bands that are few
+built_rects : (most : ℕ) (set : Point → Bool) (list : BandList) → list.count ≤ most → (b : IsBuilt most set list) → list.rects.items ≡ rects_of (λ c. c) b.bands
+built_rects most set list few b =
+    let kept = b.counted.few (subst (λ n. list.count ≤ n) (sym b.limit) few) in
+    let none : kept.row ≡ [] = no_spans kept.row (sym b.canonical.canonical.ends ∙ kept.value) in
+    sym (take-append-drop list.ended list.rects.items)
+    ∙ ap (λ l. take list.ended list.rects.items ++ l) (kept.last ∙ ap (rects_of_spans kept.from kept.from) none)
+    ∙ ap (λ l. take list.ended list.rects.items ++ rects_of_spans kept.from kept.from l) (sym none)
+    ∙ sym (kept.all (subst (λ n. list.count ≤ n) (sym b.limit) few) kept.from [])
+    ∙ closed b.bands _ b.canonical.canonical.ends
+
+pub built_region : (most : ℕ) (set : Point → Bool) (list : BandList) → list.count ≤ most → IsBuilt most set list → IsRegionOf set list.rects.items
+built_region most set list few b =
+    subst (IsRegionOf set) (sym (built_rects most set list few b)) (region_same _ set b.points _ (region_of_canonical b.bands b.canonical.canonical))
+
+pub built_count : (most : ℕ) (set : Point → Bool) (list : BandList) → list.count ≤ most → IsBuilt most set list → list.count ≡ length list.rects.items
+built_count most set list few b = b.counted.number ∙ sym (rects_are_counted b.bands b.canonical.canonical)
+    ∙ ap length (sym (built_rects most set list few b))
+
+-- the rectangles of a row of spans, one by one
+pub rects_next : (top bottom : ℤ) (spans : List Span) (i : ℕ) (d : Span) → i < length spans →
+    rects_of_spans top bottom (take (i + 1) spans) ≡ rects_of_spans top bottom (take i spans) ++
+    record { left = (get_or spans i d).left; top = top; right = (get_or spans i d).right; bottom = bottom } ∷ []
+rects_next top bottom spans i d lt = ap (rects_of_spans top bottom) (take_more spans i d lt) ∙ map-append _ (take i spans) (get_or spans i d ∷ [])
+
+spans_back : (top bottom : ℤ) (spans : List Span) → map span_of (rects_of_spans top bottom spans) ≡ spans
+spans_back top bottom [] = refl
+spans_back top bottom (s ∷ spans) = ap (λ l. s ∷ l) (spans_back top bottom spans)
+
+le_or_lt : (a b : ℕ) → (a ≤ b) ⊎ (b < a)
+le_or_lt a b = grind arith
+
+-- what is left of the rectangles where a band begins
+pub begun_ended : (old ended added : BandList) (place : ℤ) (more : ℕ) → old.ended ≤ length old.rects.items →
+    ended.rects.items ≡ take old.ended old.rects.items ++ map (ended_at place) (drop old.ended old.rects.items) → ended.ended ≡ length old.rects.items →
+    (ended.count + more ≤ ended.most → (added.rects.items ≡ ended.rects.items) × (added.ended ≡ ended.ended)) →
+    (ended.most < ended.count + more → (added.rects.items ≡ []) × (added.ended ≡ 0)) → added.ended ≡ length added.rects.items
+begun_ended old ended added place more within items end few many = elim (le_or_lt (ended.count + more) ended.most) [
+  | inl h ↦
+      let f = few h in
+      let n = length-append (take old.ended old.rects.items) (map (ended_at place) (drop old.ended old.rects.items)) in
+      let m = length-map (drop old.ended old.rects.items) (ended_at place) in
+      let whole = length-append (take old.ended old.rects.items) (drop old.ended old.rects.items) in
+      let same : length ended.rects.items ≡ length old.rects.items =
+      ap length items ∙ n ∙ ap (λ k. length (take old.ended old.rects.items) + k) m ∙ sym whole ∙ ap length (take-append-drop old.ended old.rects.items) in
+      f.1 ∙ end ∙ sym same ∙ ap length (sym f.0)
+  | inr h ↦ let f = many h in f.1 ∙ ap length (sym f.0)
+]
+
+-- the last band has these spans
+pub kept_same : (list : BandList) (bands : Bands) (place : ℤ) (spans : List Span) → IsKept list bands → IsColumns (span_steps spans) →
+    map span_of (drop list.ended list.rects.items) ≡ spans → IsPut has_column IsColumns [] (has_column (span_steps spans)) place bands bands
+kept_same list bands place spans k columns e =
+    let row : k.row ≡ spans = sym (spans_back k.from k.from k.row) ∙ ap (map span_of) (sym k.last) ∙ e in
+    record {
+      value = span_steps spans;
+      is_valid = columns;
+      holds_columns = λ x. refl;
+      put = inl ((λ x. ap (λ l. has_column l x) (sym (k.value ∙ ap span_steps row))), refl);
+    }
+
+-- and if it hasn't, they are a step more
+pub kept_differs : (list : BandList) (bands : Bands) (place : ℤ) (spans : List Span) → IsKept list bands → CanTake IsColumns place bands →
+    IsColumns (span_steps spans) → (¬ (map span_of (drop list.ended list.rects.items) ≡ spans)) →
+    IsPut has_column IsColumns [] (has_column (span_steps spans)) place bands (bands ++ record { from = place; value = span_steps spans } ∷ [])
+kept_differs list bands place spans k take columns differ = record {
+  value = span_steps spans;
+  is_valid = columns;
+  holds_columns = λ x. refl;
+  put = inr (
+    (λ same. differ (
+        let steps : span_steps spans ≡ final_value [] bands = same_columns (span_steps spans) (final_value [] bands) columns.columns
+        (final_is_valid IsColumns [] bands held_no_columns take.values).columns same in
+        ap (map span_of) k.last ∙ spans_back k.from k.from k.row ∙ sym (span_steps_same spans k.row (steps ∙ k.value))
+        )),
+    refl,
+  );
+}
+
+-- what a sweep put
+pub built_by_steps : (list : BandList) (most : ℕ) (grid : ℤ → ℤ → Bool) (set : Point → Bool) (bands : Bands) → IsKept list bands → list.most ≡ most →
+    AreStepsOf has_column IsColumns [] grid bands → ((p : Point) → grid p.y p.x ≡ set p) → IsBuilt most set list
+built_by_steps list most grid set bands k limit h same = record {
+  bands = bands;
+  counted = kept_is_counted list bands k;
+  limit = limit;
+  canonical = record {
+    canonical = record {
+      reduced = h.reduced;
+      values = values_of bands h.values;
+      ends = same_columns (final_value [] bands) [] (final_is_valid IsColumns [] bands held_no_columns h.values).columns no_columns h.final;
+    };
+    values = h.values;
+  };
+  points = λ p. h.points p.x p.y ∙ same p;
+}
+
+-- no bands at all
+pub built_none : (list : BandList) (most : ℕ) (set : Point → Bool) → IsKept list [] → list.most ≡ most → ((p : Point) → set p ≡ false) → IsBuilt most set list
+built_none list most set k limit none = built_by_steps list most (λ y x. false) set [] k limit
+    (record { points = λ x y. refl; reduced = tt; values = tt; fits = tt; final = λ x. refl }) (λ p. sym (none p))
+
+-- what is built of a set is built of an equal one
+pub built_alike : (most : ℕ) (f g : Point → Bool) (list : BandList) → ((p : Point) → f p ≡ g p) → IsBuilt most f list → IsBuilt most g list
+built_alike most f g list same h = record {
+  bands = h.bands;
+  counted = h.counted;
+  limit = h.limit;
+  canonical = h.canonical;
+  points = λ p. h.points p ∙ same p;
+}
