@@ -1,5 +1,5 @@
 use Rattle.std.proofs.Common.{◌≡◌, ℕ, ◌+◌, ◌≤◌, true, false, List, [], ◌++◌, length, take, drop, Option, Some, Ok, Err, ap, sym, ◌∙◌}
-use Rattle.std.proofs.Common.{refl, append-nil, take-append-drop, take-add, true≢false, arith, ◌-◌, length-drop}
+use Rattle.std.proofs.Common.{refl, append-nil, take-append-drop, take-add, arith, ◌-◌, length-drop}
 use Rattle.std.proofs.lemmas.List.{take_all}
 use Rattle.desk_io.specs.declared.sink.WriteFault.{WriteFault}
 use Rattle.desk_io.specs.SinkLaws.{puts_on, puts_as}
@@ -7,11 +7,11 @@ use Rattle.desk_io.specs.Sinks.{Appends, Puts}
 
 -- a write that took the first bytes of a piece wrote these
 pub appended : (piece : List ℕ) (old new : Option (List ℕ)) (x y n : ℕ) → Appends piece old new x y (Ok n) → Puts (take n piece) old new x y false
-appended piece old new x y n a = record { text = a.bytes; cause = λ f. absurd (true≢false (sym f)); later = a.later }
+appended piece old new x y n a = record { text = a.bytes; count = a.count; later = a.later }
 
 -- a write that failed wrote none
 pub faulted : (piece : List ℕ) (old new : Option (List ℕ)) (x y : ℕ) (e : WriteFault) → Appends piece old new x y (Err e) → Puts piece old new x y true
-faulted piece old new x y e a = record { text = λ b is. ([], piece, refl, a.bytes b is ∙ ap Some (sym (append-nil b))); cause = λ f. a.cause; later = a.later }
+faulted piece old new x y e a = record { text = λ b is. ([], piece, refl, a.bytes b is ∙ ap Some (sym (append-nil b))); count = a.count; later = a.later }
 
 -- what is left of the bytes, as a slice of them
 pub rest_of : (bytes : List ℕ) (done : ℕ) → take (length bytes - done) (drop done bytes) ≡ drop done bytes

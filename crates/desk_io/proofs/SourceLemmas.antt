@@ -16,10 +16,10 @@ CameFrom bytes came left = (rest : List ℕ) × (bytes ≡ came ++ rest) × (lef
 pub record Came (old new : Option (List ℕ)) (before after : ℕ) (came : List ℕ) : Type 0 where
   pub from : (b : List ℕ) → old ≡ Some b → CameFrom b came new
   pub within : length came ≤ most_bytes
-  pub later : before ≤ after
+  pub count : after ≡ before
 
 pub came_none : (a : Option (List ℕ)) (x : ℕ) → Came a a x x []
-came_none a x = record { from = λ b e. (b, refl, e); within = omega arith; later = le_refl _ }
+came_none a x = record { from = λ b e. (b, refl, e); within = omega arith; count = refl }
 
 -- what is left after so many bytes more
 pub came_on : (b came rest buf : List ℕ) (left : Option (List ℕ)) (n : ℕ) → b ≡ came ++ rest → GivesBytes rest left buf n → CameFrom b (came ++ take n buf) left
@@ -36,7 +36,7 @@ came_more a b c x y z n came buf so le one =
     record {
       from = λ s e. let (rest, is, l) = so.from s e in came_on s came rest buf c n is (one.bytes rest l);
       within = let t = length-take-le n buf one.fits in omega (arith, length-append came (take n buf));
-      later = let p = so.later in let q = one.later in omega arith;
+      count = one.count ∙ so.count;
     }
 
 -- the reading broke off after these bytes
@@ -49,7 +49,7 @@ broken b came left (rest, is, l) le = (
 )
 
 pub came_none_broken : (a : Option (List ℕ)) (x : ℕ) → ReadsAll a a x x (Err NoMemory)
-came_none_broken a x = record { bytes = λ b e. broken b [] a (b, refl, e) (omega arith); within = tt; cause = λ e. absurd (cc); later = le_refl _ }
+came_none_broken a x = record { bytes = λ b e. broken b [] a (b, refl, e) (omega arith); within = tt; count = refl; later = le_refl _ }
 
 pub came_fault : (a b c : Option (List ℕ)) (x y z : ℕ) (came buf : List ℕ) (f : ReadFault) → Came a b x y came → Takes b c y z buf (Err f) →
     ReadsAll a c x z (Err Fault)
@@ -57,8 +57,8 @@ came_fault a b c x y z came buf f so one =
     record {
       bytes = λ s e. let (rest, is, l) = so.from s e in broken s came c (rest, is, one.bytes rest l) so.within;
       within = tt;
-      cause = λ e. let p = so.later in let q = one.cause in omega arith;
-      later = let p = so.later in let q = one.later in omega arith;
+      count = omega (arith, so.count, one.count);
+      later = omega (arith, so.count, one.later);
     }
 
 pub came_all : (a b c : Option (List ℕ)) (x y z n : ℕ) (came buf : List ℕ) (v : Vec ℕ Global) → Came a b x y came → Takes b c y z buf (Ok n) → n ≡ 0 →
@@ -67,8 +67,8 @@ came_all a b c x y z n came buf v so one none items =
     record {
       bytes = λ s e. let (rest, is, l) = so.from s e in whole s rest is (one.bytes rest l);
       within = let p = so.within in let q = ap length items in omega arith;
-      cause = λ e. absurd (cc);
-      later = let p = so.later in let q = one.later in omega arith;
+      count = one.count ∙ so.count;
+      later = omega (arith, so.count, one.later);
     } where
       whole : (s rest : List ℕ) → s ≡ came ++ rest → GivesBytes rest c buf n → (v.items ≡ s) × (length s ≤ most_bytes) × (c ≡ Some [])
       whole s rest is g =
@@ -85,8 +85,8 @@ came_past a b c x y z n came buf so one past =
     record {
       bytes = λ s e. let (rest, is, l) = so.from s e in over s rest is (one.bytes rest l);
       within = tt;
-      cause = λ e. absurd (cc);
-      later = let p = so.later in let q = one.later in omega arith;
+      count = one.count ∙ so.count;
+      later = omega (arith, so.count, one.later);
     } where
       over : (s rest : List ℕ) → s ≡ came ++ rest → GivesBytes rest c buf n → (most_bytes < length s) × (c ≡ Some (drop (most_bytes + 1) s))
       over s rest is g =
@@ -101,6 +101,6 @@ came_unkept a b c x y z n came buf so one le =
     record {
       bytes = λ s e. broken s (came ++ take n buf) c (more.from s e) more.within;
       within = tt;
-      cause = λ e. absurd (cc);
-      later = more.later;
+      count = more.count;
+      later = omega (arith, more.count);
     }

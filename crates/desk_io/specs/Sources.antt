@@ -1,7 +1,7 @@
 -- What a source gives.
-use Rattle.std.specs.Prelude.{◌≡◌, ℕ, ◌+◌, ◌≤◌, ◌<◌, List, [], length, take, drop, Option, Some, Result, Ok, Err, Vec}
+use Rattle.std.specs.Prelude.{◌≡◌, ℕ, ◌+◌, ◌≤◌, ◌<◌, Bool, true, false, List, [], length, take, drop, Option, Some, Result, Ok, Err, is_err, Vec}
 use Rattle.std.specs.declared.alloc.Global.{Global}
-use Rattle.desk_io.specs.Counts.{Rose}
+use Rattle.desk_io.specs.Counts.{Counted}
 use Rattle.desk_io.specs.declared.source.ReadFault.{ReadFault}
 use Rattle.desk_io.specs.declared.reading.ReadRefusal.{ReadRefusal}
 use Rattle.desk_io.specs.declared.reading.ReadRefusal.TheVariants.{Fault, Size, NoMemory}
@@ -22,15 +22,11 @@ abbrev pub FitsIn : List ℕ → Result ℕ ReadFault → Type 0
 FitsIn buf (Ok n) = n ≤ length buf
 FitsIn buf (Err e) = Unit {0}
 
-abbrev pub ReadRose : ℕ → ℕ → Result ℕ ReadFault → Type 0
-ReadRose before after (Ok n) = Unit {0}
-ReadRose before after (Err e) = Rose before after
-
--- A read into a buffer. It fails only where the count of faults rose, and then takes nothing.
+-- A read into a buffer. Where it fails the count of faults rose, and nothing is taken.
 pub record Takes (old new : Option (List ℕ)) (before after : ℕ) (buf : List ℕ) (result : Result ℕ ReadFault) : Type 0 where
   pub bytes : (b : List ℕ) → old ≡ Some b → TakesFrom b new buf result
   pub fits : FitsIn buf result
-  pub cause : ReadRose before after result
+  pub count : Counted (is_err result) before after
   pub later : before ≤ after
 
 abbrev pub most_bytes : ℕ
@@ -52,9 +48,14 @@ abbrev pub IsWithinMost : Result (Vec ℕ Global) ReadRefusal → Type 0
 IsWithinMost (Ok v) = length v.items ≤ most_bytes
 IsWithinMost (Err e) = Unit {0}
 
--- Reading to the end. A fault comes only where the count of faults rose.
+-- whether a read failed
+abbrev pub is_fault : Result (Vec ℕ Global) ReadRefusal → Bool
+is_fault (Err Fault) = true
+is_fault result = false
+
+-- Reading to the end. The count of faults rose where the answer is a fault, and with each other answer it stays.
 pub record ReadsAll (old new : Option (List ℕ)) (before after : ℕ) (result : Result (Vec ℕ Global) ReadRefusal) : Type 0 where
   pub bytes : (b : List ℕ) → old ≡ Some b → Comes b new result
   pub within : IsWithinMost result
-  pub cause : result ≡ Err Fault → Rose before after
+  pub count : Counted (is_fault result) before after
   pub later : before ≤ after

@@ -47,8 +47,8 @@ impl From<AllocError> for ReadRefusal {
 
 /// Reads a source to its end, or until one byte more came than an input may have.
 ///
-/// The answer is `Fault` only where the source's count of faults rose, and `Size` where byte
-/// 16,777,217 came, after which nothing more is read.
+/// The source's count of faults rises where the answer is `Fault`, and stays with each other answer. `Size` is the
+/// answer where byte 16,777,217 came, after which nothing more is read.
 pub fn read_all<S: Source>(alloc: Global, source: &mut S) -> Result<Vec<u8>, ReadRefusal>
     ensures { ReadsAll (S.left source.old) (S.left source.new)
         (S.faults source.old) (S.faults source.new) result }

@@ -1,8 +1,10 @@
 pub mod CallLemmas
-pub mod CarryLemmas
 pub mod ConfigLemmas
 pub mod HexLemmas
 pub mod HistoryLemmas
 pub mod InputLaws
+pub mod LineLemmas
 pub mod LiveLemmas
+pub mod NumberLemmas
 pub mod RowLemmas
+pub mod TextLemmas

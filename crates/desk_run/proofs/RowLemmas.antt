@@ -1,13 +1,10 @@
 -- Rows of values that are written or summed one after the other.
-use Rattle.std.proofs.Common.{◌≡◌, ℕ, zero, suc, ◌+◌, ◌-◌, ◌*◌, ◌<◌, ◌≤◌, List, [], ◌∷◌, ◌++◌, take, drop, get_or, length, arith, refl, sym, ap, ◌∙◌}
-use Rattle.std.proofs.Common.{Option, true, false, append_assoc, append-nil, length-take, length-drop, pos, ◌+ℤ◌, unsigned_abs}
-use Rattle.std.proofs.lemmas.List.{drop-drop, same_lists, get_or_default, take_all, get_or-take, get_or-drop}
+use Rattle.std.proofs.Common.{◌≡◌, ℕ, zero, suc, ◌+◌, ◌-◌, ◌*◌, ◌<◌, ◌≤◌, List, ◌++◌, take, drop, length, arith, refl, sym, ap, ◌∙◌}
+use Rattle.std.proofs.Common.{Option, true, false, append_assoc, append-nil}
+use Rattle.std.proofs.lemmas.List.{drop-drop, take_all}
 use Rattle.std.proofs.lemmas.List.Sums.{fold-append}
 use Rattle.std.proofs.Math.Nat.{mul-le-mul_right, mul_comm}
 use Rattle.std.proofs.Math.Seq.{take-add}
-use Rattle.std.proofs.lemmas.Int.{ints}
-use Rattle.geom_base.specs.Grid.{value_of_point}
-use Rattle.geom_base.specs.declared.size.Size.{Size}
 use Rattle.desk_io.specs.SinkLaws.{puts_as, puts_on, puts_stopped}
 use Rattle.desk_io.specs.Sinks.{Puts}
 use Rattle.desk_run.specs.Texts.{row_text, rows_text, sum_of, sum_on}

@@ -1,7 +1,7 @@
 -- The answer of the top call: which status is due, what each status leaves, and why it came.
 use Rattle.std.specs.Prelude.{◌≡◌, ℕ, true, false, if◌then◌else◌, List, [], ◌∷◌, Option, Some, None, Result, Ok, Err, codes, ◌⊎◌}
 use Rattle.std.specs.Str.{bytes_eq}
-use Rattle.desk_io.specs.Counts.{Rose}
+use Rattle.desk_io.specs.Counts.{Counted, Rose}
 use Rattle.desk_io.specs.Sinks.{Puts}
 use Rattle.desk_run.specs.declared.run.Ended.{Ended}
 use Rattle.desk_run.specs.declared.run.Ended.TheVariants as ended
@@ -10,8 +10,9 @@ use Rattle.desk_run.specs.declared.status.InputRefusal.TheVariants.{Size}
 use Rattle.desk_run.specs.declared.status.Status.{Status}
 use Rattle.desk_run.specs.declared.status.Status.TheVariants.{Done, Usage, InputRefused, NoMemory, ReadFault, WriteFault, MemorySeen}
 use Rattle.desk_run.specs.Input.{Checked, checked}
-use Rattle.desk_span.specs.Desk.{first_state}
+use Rattle.desk_span.specs.Desk.{State, first_state}
 use Rattle.desk_run.specs.Run.{Entry, Ran}
+use Rattle.desk_run.specs.Status.{is_read_fault, is_write_fault}
 use Rattle.desk_run.specs.Texts.{plain_text}
 
 -- what the call was given, and what it left
@@ -47,7 +48,7 @@ due_by None = Some Usage
 due_by (Some (Err r)) = Some (InputRefused r)
 due_by (Some (Ok i)) = None
 
--- A status comes where it is due. Three may come before what is due: the causes of two are counts, and want of memory is free.
+-- A status comes where it is due. Three may come before what is due: the causes of two are counts, and want of memory is free of a cause.
 abbrev pub ComesBy : Status → Option Status → Type 0
 ComesBy Usage due = due ≡ Some Usage
 ComesBy (InputRefused r) due = due ≡ Some (InputRefused r)
@@ -57,16 +58,16 @@ ComesBy ReadFault due = due ≡ Some Usage → ⊥
 ComesBy WriteFault due = Unit {0}
 ComesBy NoMemory due = due ≡ Some Usage → ⊥
 
--- the counts that rose
-abbrev pub HasCause : Call → Status → Type 0
-HasCause c ReadFault = Rose c.read_faults c.read_faults_after
-HasCause c WriteFault = Rose c.write_faults c.write_faults_after
-HasCause c _ = Unit {0}
+-- the count of a stream rose where its fault is the answer, and with each other answer it stays
+pub record HasCause (c : Call) (s : Status) : Type 0 where
+  pub reading : Counted (is_read_fault s) c.read_faults c.read_faults_after
+  pub writing : Counted (is_write_fault s) c.write_faults c.write_faults_after
 
--- a run of the input's commands, from the desk of its configuration
+-- a run of the input's commands, from the desk of its configuration to the desk that it left
 pub record Reached (i : Checked) (old new : Option (List ℕ)) (before after : ℕ) (e : Ended) : Type 0 where
+  pub desk : State
   pub history : List Entry
-  pub ran : Ran i.script.names i.script.commands (first_state i.config.size) old new before after e history
+  pub ran : Ran i.script.names i.script.commands (first_state i.config.size) desk old new before after e history
 
 -- the sink failed in the text of the answer that is due
 pub record Cut (due : Option Status) (old new : Option (List ℕ)) (before after : ℕ) : Type 0 where
@@ -74,25 +75,31 @@ pub record Cut (due : Option Status) (old new : Option (List ℕ)) (before after
   pub comes : due ≡ Some answer
   pub wrote : Puts (plain_text answer) old new before after true
 
--- what is written with each status
+-- nothing was written, which is all that is seen of a call that carried out no command
+abbrev pub Quiet : Option (List ℕ) → Option (List ℕ) → Type 0
+Quiet old new = new ≡ old
+
+-- What is written with each status. There may be no memory before the first command, or for what the next one makes.
 abbrev pub Leaves : Option (Result Checked InputRefusal) → Option (List ℕ) → Option (List ℕ) → ℕ → ℕ → Status → Type 0
 Leaves (Some (Ok i)) old new before after Done = Reached i old new before after ended.Done
 Leaves (Some (Ok i)) old new before after MemorySeen = Reached i old new before after ended.MemorySeen
 Leaves (Some (Ok i)) old new before after WriteFault = Reached i old new before after ended.WriteFault
-Leaves (Some (Ok i)) old new before after NoMemory = Reached i old new before after ended.NoMemory ⊎ (new ≡ old)
+Leaves (Some (Ok i)) old new before after NoMemory = Reached i old new before after ended.NoMemory ⊎ Quiet old new
 Leaves input old new before after WriteFault = Cut (due_by input) old new before after
-Leaves input old new before after ReadFault = new ≡ old
-Leaves input old new before after NoMemory = new ≡ old
+Leaves input old new before after ReadFault = Quiet old new
+Leaves input old new before after NoMemory = Quiet old new
 Leaves input old new before after s = Puts (plain_text s) old new before after false
 
--- the source was read to its end, or not at all
-abbrev pub Reads : Call → Status → Type 0
-Reads c Usage = (c.left_after ≡ c.left) × (c.read_faults_after ≡ c.read_faults)
-Reads c ReadFault = Unit {0}
-Reads c NoMemory = Unit {0}
-Reads c WriteFault = Unit {0}
-Reads c (InputRefused Size) = Unit {0}
-Reads c _ = c.left_after ≡ Some []
+-- a reading that may break off before the end of the source: at a fault, for want of memory, or where more came than an input may have
+abbrev pub BreaksOff : Option Status → Status → Type 0
+BreaksOff due ReadFault = Unit {0}
+BreaksOff due NoMemory = Unit {0}
+BreaksOff due s = due ≡ Some (InputRefused Size)
+
+-- how far the source was read: where the words are in no form it is untouched, whatever the status; else it was read to its end
+abbrev pub Reads : Call → Option Status → Status → Type 0
+Reads c (Some Usage) s = (c.left_after ≡ c.left) × (c.read_faults_after ≡ c.read_faults)
+Reads c due s = BreaksOff due s ⊎ (c.left_after ≡ Some [])
 
 -- no count of faults rose
 pub record NoRise (c : Call) : Type 0 where
@@ -108,9 +115,9 @@ IsDueOrMemory None s = (s ≡ Done) ⊎ ((s ≡ MemorySeen) ⊎ (s ≡ NoMemory)
 pub record Answered (c : Call) (input : Option (Result Checked InputRefusal)) (s : Status) : Type 0 where
   -- which status: by what is due
   pub comes : ComesBy s (due_by input)
-  -- and by which count, where it came before that
+  -- and by which count
   pub cause : HasCause c s
   -- where no count rises: what is due, or want of memory
   pub complete : NoRise c → IsDueOrMemory (due_by input) s
   pub leaves : Leaves input c.written c.written_after c.write_faults c.write_faults_after s
-  pub reads : Reads c s
+  pub reads : Reads c (due_by input) s

@@ -2,6 +2,7 @@ pub mod Status
 pub mod Input
 pub mod Texts
 pub mod Run
+pub mod TextLaws
 pub mod Answers
 pub mod Config
 pub mod InnerAnswers

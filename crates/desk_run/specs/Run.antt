@@ -3,14 +3,13 @@ use Rattle.std.specs.Prelude.{◌≡◌, ℕ, ◌+◌, Bool, true, false, List, 
 use Rattle.std.specs.List.{flat_map, list_all}
 use Rattle.std.specs.Option.{option_map_or}
 use Rattle.desk_io.specs.Sinks.{Puts}
-use Rattle.script_orders.specs.declared.desk_command.DeskCommand.{DeskCommand}
 use Rattle.script_orders.specs.declared.script_command.ScriptCommand.{ScriptCommand}
 use Rattle.script_orders.specs.declared.script_command.ScriptCommand.TheVariants.{Create, Delete, Brush, Draw, Dump, Sum, Nothing}
 use Rattle.desk_run.specs.declared.run.Ended.{Ended}
 use Rattle.desk_run.specs.declared.run.Ended.TheVariants.{Done, MemorySeen, NoMemory, WriteFault}
-use Rattle.desk_span.specs.Reports.{Told, memory}
-use Rattle.desk_span.specs.Desk.{State, surface_at, name_of, carried}
-use Rattle.desk_span.specs.Meeting.{Meets}
+use Rattle.desk_span.specs.Reports.{Told}
+use Rattle.desk_span.specs.Telling.{AreReports}
+use Rattle.desk_span.specs.Desk.{State, surface_at, carried}
 use Rattle.desk_run.specs.Texts.{BitmapNames, report_text, dump_text, sum_text, end_text}
 
 -- a command that was carried out, with its reports
@@ -26,23 +25,20 @@ abbrev pub run : List Entry → State → State
 run [] s = s
 run (e ∷ es) s = run es (carried e.command e.told s)
 
--- a report that memory was wanting for a drawing: on what it draws on and meets, with nothing drawn
-pub record IsWanting (s : State) (c : DeskCommand) (t : Told) : Type 0 where
-  pub target : t.target ≡ name_of c.target
-  pub cause : t.cause ≡ memory
-  pub nothing : t.rects ≡ []
-  pub meets : Meets s c
-
--- the reports that a command may have: none, or a drawing one for want of memory
+-- the reports that a command may have: those of a drawing; no other has any
 abbrev pub MayTell : State → ScriptCommand → List Told → Type 0
-MayTell s command [] = Unit {0}
-MayTell s (Draw c) (t ∷ []) = IsWanting s c t
-MayTell s command told = ⊥
+MayTell s (Draw c) told = AreReports s c told
+MayTell s command told = told ≡ []
 
 -- each command has reports that it may have, in the state before it
 abbrev pub MayTellAll : State → List Entry → Type 0
 MayTellAll s [] = Unit {0}
 MayTellAll s (e ∷ es) = MayTell s e.command e.told × MayTellAll (carried e.command e.told s) es
+
+-- commands that were carried out one after the other, with their reports, and the state that they left
+pub record History (s t : State) (h : List Entry) : Type 0 where
+  pub tells : MayTellAll s h
+  pub shows : t ≡ run h s
 
 -- the lines of command n with its reports, in the state before it
 abbrev pub text_of : BitmapNames → ℕ → ScriptCommand → List Told → State → List ℕ
@@ -53,6 +49,13 @@ text_of names n (Create o) told s = []
 text_of names n (Delete b) told s = []
 text_of names n (Brush o) told s = []
 text_of names n Nothing told s = []
+
+-- command n that was carried out with these reports: the state that it left, and what was written of it
+pub record Carried (names : BitmapNames) (n : ℕ) (command : ScriptCommand) (told : List Told) (s t : State) (old new : Option (List ℕ))
+    (before after : ℕ) (failed : Bool) : Type 0 where
+  pub tells : MayTell s command told
+  pub shows : t ≡ carried command told s
+  pub wrote : Puts (text_of names n command told s) old new before after failed
 
 -- the lines of these commands, the first being number n
 abbrev pub body : BitmapNames → ℕ → List Entry → State → List ℕ
@@ -99,10 +102,10 @@ WroteAs names commands s h old new x y NoMemory = Puts (body names 1 h s) old ne
 WroteAs names commands s h old new x y WriteFault = Puts (body names 1 h s) old new x y true
     ⊎ ((commands_of h ≡ commands) × Puts (out names h s) old new x y true)
 
--- a whole run: the commands that were carried out with their reports, and what was written of them
-pub record Ran (names : BitmapNames) (commands : List ScriptCommand) (s : State) (old new : Option (List ℕ)) (before after : ℕ) (ended : Ended)
+-- a whole run: the commands that were carried out with their reports, the state that they left, and what was written of them
+pub record Ran (names : BitmapNames) (commands : List ScriptCommand) (s t : State) (old new : Option (List ℕ)) (before after : ℕ) (ended : Ended)
     (h : List Entry) : Type 0 where
   pub ends : EndsAs commands h ended
-  pub tells : MayTellAll s h
+  pub history : History s t h
   pub seen : SeenAs h ended
   pub wrote : WroteAs names commands s h old new before after ended

@@ -1,5 +1,5 @@
 -- How a run ends.
-use Rattle.std.specs.Prelude.{ℕ}
+use Rattle.std.specs.Prelude.{ℕ, Bool, true, false}
 use Rattle.desk_run.specs.declared.status.Status.{Status}
 use Rattle.desk_run.specs.declared.status.Status.TheVariants.{Done, Usage, InputRefused, NoMemory, ReadFault, WriteFault, MemorySeen}
 
@@ -12,3 +12,12 @@ exit_of NoMemory = 4
 exit_of ReadFault = 5
 exit_of WriteFault = 6
 exit_of MemorySeen = 9
+
+-- whether the source or the sink failed
+abbrev pub is_read_fault : Status → Bool
+is_read_fault ReadFault = true
+is_read_fault s = false
+
+abbrev pub is_write_fault : Status → Bool
+is_write_fault WriteFault = true
+is_write_fault s = false

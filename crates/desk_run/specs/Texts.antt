@@ -15,7 +15,9 @@ use Rattle.desk_run.specs.declared.status.InputRefusal.{InputRefusal}
 use Rattle.desk_run.specs.declared.status.InputRefusal.TheVariants.{Size, Config, Script}
 use Rattle.desk_run.specs.declared.status.Status.{Status}
 use Rattle.desk_run.specs.declared.status.Status.TheVariants.{Usage, InputRefused}
-use Rattle.desk_span.specs.Reports.{Cause, fault, memory, Told}
+use Rattle.desk_span.specs.declared.reports.Cause.{Cause}
+use Rattle.desk_span.specs.declared.reports.Cause.TheVariants.{Fault, Memory}
+use Rattle.desk_span.specs.Reports.{Told}
 
 abbrev pub hex_digit : ℕ → ℕ
 hex_digit n = if nat_lt n 10 then 48 + n else 87 + n
@@ -77,19 +79,22 @@ abbrev pub sum_text : BitmapNames → Named → Surface → List ℕ
 sum_text names q s = sum_line_text names q (sum_of s.values)
 
 abbrev pub cause_text : Cause → List ℕ
-cause_text fault = codes "fault"
-cause_text memory = codes "memory"
+cause_text Fault = codes "fault"
+cause_text Memory = codes "memory"
 
 abbrev pub drawn_text : BitmapNames → Named → Rect → List ℕ
 drawn_text names q r =
     codes "drawn " ++ name_text names q ++ codes " " ++ signed_decimal r.left ++ codes " " ++ signed_decimal r.top
     ++ codes " " ++ signed_decimal r.right ++ codes " " ++ signed_decimal r.bottom ++ codes "\n"
 
--- the lines of a report of command n
+-- the first line of a report of command n
+abbrev pub report_head_text : BitmapNames → ℕ → Cause → Named → ℕ → List ℕ
+report_head_text names n cause q count =
+    codes "command " ++ decimal n ++ codes " " ++ cause_text cause ++ codes " " ++ name_text names q ++ codes " " ++ decimal count ++ codes "\n"
+
+-- the lines of a report of command n: its head, and a line for each rectangle that was done
 abbrev pub report_text : BitmapNames → ℕ → Told → List ℕ
-report_text names n t =
-    codes "command " ++ decimal n ++ codes " " ++ cause_text t.cause ++ codes " " ++ name_text names t.target ++ codes " "
-    ++ decimal (length t.rects) ++ codes "\n" ++ flat_map (drawn_text names t.target) t.rects
+report_text names n t = report_head_text names n t.cause t.target (length t.rects) ++ flat_map (drawn_text names t.target) t.rects
 
 -- the last line of a run
 abbrev pub end_text : ℕ → List ℕ

@@ -1,23 +1,25 @@
 //! The top call.
 
-ghost use Rattle.std.specs.Prelude.{◌≡◌, ◌≤◌, ◌*◌, ◌+◌, ◌⊎◌, ℕ, List, Some, None, Ok, map, length, string_bytes, is_some};
-ghost use Rattle.desk_io.specs.Counts.{Rose};
+ghost use Rattle.std.specs.Prelude.{◌≡◌, ◌≤◌, ◌*◌, ◌+◌, ◌⊎◌, ℕ, List, Some, None, Ok, map, length, string_bytes, is_some, IfOk};
+ghost use Rattle.desk_io.specs.Counts.{Counted};
 ghost use Rattle.desk_io.specs.Sources.{most_bytes};
 ghost use Rattle.desk_run.specs.Answers.{Answered, form_of, input_of};
-ghost use Rattle.desk_run.specs.InnerAnswers.{Ends, Says, status_of};
+ghost use Rattle.desk_run.specs.InnerAnswers.{Ends, RanAs, Says, status_of};
+ghost use Rattle.desk_span.specs.Desk.{first_state, live_of};
 ghost use Rattle.script_orders.specs.Asked.{IsSurfaceSize};
 ghost use Rattle.script_orders.specs.Live.{CanRun, first_live};
 ghost use Rattle.desk_run.specs.Input.{checked, checked_of};
+ghost use Rattle.desk_run.specs.Status.{is_read_fault, is_write_fault};
 ghost use Rattle.desk_run.specs.declared.status.Status.TheVariants as status;
 
 use crate::input::{Input, InputError, read_input};
-use crate::room::{row_line, row_values};
-use crate::run::{Ended, run_all};
+use crate::room::RowRoom;
+use crate::run::{Ended, Run, run_all};
 use crate::status::{InputRefusal, Status};
 use crate::text::plain_line;
 use desk_io::{ReadRefusal, Sink, Source, read_all, write_all};
-use desk_span::Desk;
-use std::alloc::Global;
+use desk_span::{Desk, Reports};
+use std::alloc::{AllocError, Global};
 
 /// Whether the words are those of the form `run`.
 fn is_run(words: &Vec<String>) -> bool
@@ -40,6 +42,31 @@ fn say<K: Sink>(sink: &mut K, status: Status) -> Status
     status
 }
 
+/// What it takes to run an input.
+fn run_of<'a>(alloc: Global, input: &'a Input<'a>) -> Result<Run<'a>, AllocError>
+    requires { IsSurfaceSize input.now.config.size }
+    ensures script { IfOk result (λ r. r.script.now ≡ input.now.script) }
+    ensures desk { IfOk result (λ r. r.desk ≡ first_state input.now.config.size) }
+{
+    Ok(Run {
+        alloc,
+        script: &input.script,
+        desk: Desk::new(alloc, input.config.size)?,
+        reports: Reports::new(alloc)?,
+        room: RowRoom::new(alloc)?,
+    })
+}
+
+/// Carries out the commands on the desk that stands, and answers how that ended.
+fn run_on<K: Sink>(run: &mut Run<'_>, sink: &mut K) -> Status
+    requires can { CanRun (live_of run.old.desk) run.old.script.now.commands }
+    requires few { length run.old.script.now.commands ≤ 100000 }
+    ensures { RanAs run.old.script.now run.old.desk (K.written sink.old) (K.written sink.new) (K.faults sink.old) (K.faults sink.new) result }
+{
+    let ended = run_all(run, sink);
+    status_of(ended)
+}
+
 /// Runs what an input asks for.
 fn run_input<K: Sink>(alloc: Global, input: &Input<'_>, sink: &mut K) -> Status
     requires size { IsSurfaceSize input.now.config.size }
@@ -47,26 +74,10 @@ fn run_input<K: Sink>(alloc: Global, input: &Input<'_>, sink: &mut K) -> Status
     requires few { length input.now.script.commands ≤ 100000 }
     ensures { Ends (Some (Ok (checked_of input.now))) (K.written sink.old) (K.written sink.new) (K.faults sink.old) (K.faults sink.new) result }
 {
-    let Ok(mut desk) = Desk::new(alloc, input.config.size) else {
-        return Status::NoMemory;
-    };
-    let Ok(mut values) = row_values(alloc) else {
-        return Status::NoMemory;
-    };
-    let Ok(mut line) = row_line(alloc) else {
-        return Status::NoMemory;
-    };
-    let script = &input.script;
-    let ended = run_all(
-        alloc,
-        &mut desk,
-        script,
-        script.commands(),
-        &mut values,
-        &mut line,
-        sink,
-    );
-    status_of(ended)
+    match run_of(alloc, input) {
+        Ok(mut run) => run_on(&mut run, sink),
+        Err(_) => Status::NoMemory,
+    }
 }
 
 /// The status of a run that ended so.
@@ -104,8 +115,8 @@ pub fn run_desktop<S: Source, K: Sink>(
     source: &mut S,
     sink: &mut K,
 ) -> Status
-    ensures read_fault { result ≡ Status.ReadFault → Rose (S.faults source.old) (S.faults source.new) }
-    ensures write_fault { result ≡ Status.WriteFault → Rose (K.faults sink.old) (K.faults sink.new) }
+    ensures read_fault { Counted (is_read_fault result) (S.faults source.old) (S.faults source.new) }
+    ensures write_fault { Counted (is_write_fault result) (K.faults sink.old) (K.faults sink.new) }
     ensures usage { form_of (map (λ w. string_bytes w) words.now.items) ≡ None → (result ≡ Status.Usage) ⊎ (result ≡ Status.WriteFault) }
     ensures form { result ≡ Status.Usage → form_of (map (λ w. string_bytes w) words.now.items) ≡ None }
 

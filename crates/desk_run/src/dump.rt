@@ -2,7 +2,7 @@
 
 ghost use Rattle.std.specs.Prelude.{◌≡◌, ◌<◌, ◌+◌, ◌*◌, length, is_err};
 ghost use Rattle.desk_io.specs.Sinks.{Puts};
-ghost use Rattle.pix_format.specs.Value.{digits_of};
+ghost use Rattle.desk_run.specs.InnerRows.{longest_line, widest_row};
 ghost use Rattle.desk_run.specs.Texts.{hex_digit, hex_digits, row_text, rows_text, dump_text};
 
 use crate::text::head_line;
@@ -67,7 +67,7 @@ fn put_rows<K: Sink>(
     Ok(())
 }
 
-/// Writes the lines of a dump: its head, and a line for each row.
+/// Writes the lines of a dump: its head, and a line for each row. `values` and `line` are room for a row.
 pub fn put_dump<K: Sink>(
     sink: &mut K,
     script: &Script<'_>,
@@ -76,13 +76,17 @@ pub fn put_dump<K: Sink>(
     values: &mut [u32],
     line: &mut [u8],
 ) -> Result<(), WriteFault>
-    requires places { length values.old ≡ canvas.now.size.w }
-    requires room { length line.old ≡ digits_of canvas.now.format * canvas.now.size.w + 1 }
+    requires values { length values.old ≡ widest_row }
+    requires line { length line.old ≡ longest_line }
     ensures { let text = dump_text script.now.names name canvas.now in
         Puts text (K.written sink.old) (K.written sink.new) (K.faults sink.old) (K.faults sink.new) (is_err result) }
 {
+    let size = canvas.size();
     let format = canvas.format();
-    let head = head_line(script, name, canvas.size(), format);
+    let head = head_line(script, name, size, format);
     write_all(sink, head.as_slice())?;
-    put_rows(sink, canvas, format.digits() as usize, values, line)
+    let width = size.w as usize;
+    let digits = format.digits() as usize;
+    let row = &mut values[..width];
+    put_rows(sink, canvas, digits, row, &mut line[..digits * width + 1])
 }

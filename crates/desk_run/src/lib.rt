@@ -8,6 +8,7 @@ mod call;
 mod config;
 mod dump;
 mod input;
+mod report;
 mod room;
 mod run;
 mod status;
@@ -15,6 +16,8 @@ mod sum;
 #[cfg(test)]
 mod tests;
 mod text;
+mod told;
 
 pub use call::run_desktop;
 pub use status::{InputRefusal, Status};
+pub use told::texts_tell_reports;

@@ -2,6 +2,7 @@
 
 ghost use Rattle.std.specs.Prelude.{◌≡◌, length, is_err};
 ghost use Rattle.desk_io.specs.Sinks.{Puts};
+ghost use Rattle.desk_run.specs.InnerRows.{widest_row};
 ghost use Rattle.desk_run.specs.Texts.{sum_of, sum_on, sum_text};
 
 use crate::text::sum_line;
@@ -33,7 +34,7 @@ fn sum(canvas: &Canvas, values: &mut [u32]) -> u64
     sum
 }
 
-/// Writes the line of a sum, in one piece.
+/// Writes the line of a sum, in one piece. `values` is room for a row.
 pub fn put_sum<K: Sink>(
     sink: &mut K,
     script: &Script<'_>,
@@ -41,10 +42,11 @@ pub fn put_sum<K: Sink>(
     canvas: &Canvas,
     values: &mut [u32],
 ) -> Result<(), WriteFault>
-    requires { length values.old ≡ canvas.now.size.w }
+    requires { length values.old ≡ widest_row }
     ensures { let text = sum_text script.now.names name canvas.now in
         Puts text (K.written sink.old) (K.written sink.new) (K.faults sink.old) (K.faults sink.new) (is_err result) }
 {
-    let line = sum_line(script, name, sum(canvas, values));
+    let row = &mut values[..canvas.size().w as usize];
+    let line = sum_line(script, name, sum(canvas, row));
     write_all(sink, line.as_slice())
 }

@@ -1,14 +1,15 @@
 //! Lines, made in a place of fixed size.
 
-ghost use Rattle.std.specs.Prelude.{◌≡◌, ◌≤◌, ◌+◌, ◌*◌, ◌<◌, ◌++◌, [], length, decimal, codes};
+ghost use Rattle.std.specs.Prelude.{◌≡◌, ◌≤◌, ◌+◌, ◌*◌, ◌<◌, ◌++◌, length, decimal, codes};
+ghost use Rattle.std.specs.Fmt.{signed_decimal};
 ghost use Rattle.arrayvec.specs.ArrayVec.{array_vec_len};
-ghost use Rattle.desk_span.specs.Reports.{memory};
 ghost use Rattle.desk_run.specs.Texts as spec;
 
 use crate::dump::put_hex;
 use crate::status::{InputRefusal, Status};
 use arrayvec::ArrayVec;
-use geom_base::Size;
+use desk_span::{Cause, Report};
+use geom_base::{Rect, Size};
 use itoa::Buffer;
 use pix_format::Format;
 use script_orders::{Named, Script};
@@ -32,6 +33,26 @@ fn add_number(line: &mut Line, n: u64)
 {
     let mut buffer = Buffer::new();
     add(line, buffer.format(n).as_bytes());
+}
+
+fn add_signed(line: &mut Line, n: &i32)
+    requires { array_vec_len line.old + 20 ≤ 200 }
+    ensures items { line.new.items ≡ line.old.items ++ signed_decimal n.now }
+    ensures len { array_vec_len line.new ≤ array_vec_len line.old + 20 }
+{
+    let mut buffer = Buffer::new();
+    add(line, buffer.format(*n).as_bytes());
+}
+
+fn add_cause(line: &mut Line, cause: Cause)
+    requires { array_vec_len line.old + 6 ≤ 200 }
+    ensures items { line.new.items ≡ line.old.items ++ spec.cause_text cause }
+    ensures len { array_vec_len line.new ≤ array_vec_len line.old + 6 }
+{
+    match cause {
+        Cause::Fault => add(line, b"fault"),
+        Cause::Memory => add(line, b"memory"),
+    }
 }
 
 fn add_name(line: &mut Line, script: &Script<'_>, name: Named)
@@ -104,17 +125,39 @@ pub fn sum_line(script: &Script<'_>, name: Named, sum: u64) -> Line
     line
 }
 
-/// The line of a report that memory was wanting for a command, with nothing drawn.
-pub fn wanting_line(script: &Script<'_>, number: u64, name: Named) -> Line
-    ensures { result.items ≡ spec.report_text script.now.names number (record { target = name; cause = memory; rects = [] }) }
+/// The first line of a report of a command.
+pub fn report_head_line(script: &Script<'_>, number: u64, report: &Report) -> Line
+    ensures { let r = report.now in
+        result.items ≡ spec.report_head_text script.now.names number r.cause r.target (length r.rects) }
 {
     let mut line = Line::new();
     add(&mut line, b"command ");
     add_number(&mut line, number);
-    add(&mut line, b" memory ");
-    add_name(&mut line, script, name);
     add(&mut line, b" ");
-    add_number(&mut line, 0);
+    add_cause(&mut line, report.cause());
+    add(&mut line, b" ");
+    add_name(&mut line, script, report.target());
+    add(&mut line, b" ");
+    add_number(&mut line, report.rects().len() as u64);
+    add(&mut line, b"\n");
+    line
+}
+
+/// The line of a rectangle of a target that was done.
+pub fn drawn_line(script: &Script<'_>, target: Named, rect: &Rect) -> Line
+    ensures { result.items ≡ spec.drawn_text script.now.names target rect.now }
+{
+    let mut line = Line::new();
+    add(&mut line, b"drawn ");
+    add_name(&mut line, script, target);
+    add(&mut line, b" ");
+    add_signed(&mut line, &rect.left);
+    add(&mut line, b" ");
+    add_signed(&mut line, &rect.top);
+    add(&mut line, b" ");
+    add_signed(&mut line, &rect.right);
+    add(&mut line, b" ");
+    add_signed(&mut line, &rect.bottom);
     add(&mut line, b"\n");
     line
 }

@@ -1,54 +1,34 @@
 -- What lies of a rectangle on a surface, and what a clip lets through of it.
-use Rattle.std.proofs.Common.{◌≡◌, ◌∙◌, ◌↔◌, ℕ, pos, ◌<◌, ◌-ℤ◌, true, IsTrue, List, refl, sym, ap, arith, Option, None, inl, inr}
+use Rattle.std.proofs.Common.{◌≡◌, ◌∙◌, ◌↔◌, ℕ, pos, ◌<◌, ◌-ℤ◌, true, IsTrue, List, refl, sym, ap, arith, None, inl, inr}
+use Rattle.std.specs.Cmp.Derive.{both_true}
 use Rattle.std.specs.List.{All}
-use Rattle.std.proofs.lemmas.Bool.{cases_Bool, false≢true}
 use Rattle.std.proofs.lemmas.Bool.Decides.{nat_tests}
 use Rattle.std.proofs.lemmas.Int.{ints}
 use Rattle.geom_base.specs.declared.point.Point.{Point}
 use Rattle.geom_base.specs.declared.rect.Rect.{Rect}
 use Rattle.geom_base.specs.declared.size.Size.{Size}
-use Rattle.geom_base.specs.Points.{HasPoints, has_points, IsIn, is_in, LiesIn, no_rect, point_at, whole}
-use Rattle.geom_base.specs.PointLaws.{is_in-IsIn, first_is_in}
+use Rattle.geom_base.specs.Points.{HasPoints, IsIn, is_in, LiesIn, point_at, whole}
+use Rattle.geom_base.specs.PointLaws.{has_point, is_in-IsIn, first_is_in, lies_between}
 use Rattle.geom_base.specs.Tests.{same_tests}
 use Rattle.brush_obj.specs.Calls.{rect_of}
-use Rattle.brush_obj.specs.declared.draw_call.DrawCall.{DrawCall}
 use Rattle.clip_obj.specs.Clip.{LiesWithin}
+use Rattle.script_orders.specs.declared.desk_command.DeskCommand.{DeskCommand}
+use Rattle.desk_span.specs.Desk.{area_of}
 use Rattle.desk_span.specs.InnerFrames.{LetsThrough}
 use Rattle.desk_span.specs.Meeting.{Reaches}
-
-pub has_points-HasPoints : (r : Rect) → IsTrue (has_points r) ↔ HasPoints r
-has_points-HasPoints r = grind (arith, ints)
-
--- a rectangle with a point has points
-pub has_point : {p : Point} {r : Rect} → IsIn p r → HasPoints r
-has_point h = record { across = omega (arith, ints, h.from_left, h.to_right); down = omega (arith, ints, h.from_top, h.to_bottom) }
 
 -- a rectangle with points that are another's lies within it
 pub within_edges : (r s : Rect) → ((p : Point) → IsIn p r → IsIn p s) → HasPoints r → LiesWithin s r
 within_edges r s inside h =
-    let first = inside (record { x = r.left; y = r.top }) (first_is_in r h.across h.down) in
-    let last = inside (record { x = r.right -ℤ pos 1; y = r.bottom -ℤ pos 1 }) (record {
-      from_left = omega (arith, ints, h.across);
-      to_right = omega (arith, ints);
-      from_top = omega (arith, ints, h.down);
-      to_bottom = omega (arith, ints);
-    }) in
+    let w = lies_between r s inside h in
     record {
-      left = first.from_left;
+      left = w.left;
       across = omega (arith, ints, h.across);
-      right = omega (arith, ints, last.to_right);
-      top = first.from_top;
+      right = w.right;
+      top = w.top;
       down = omega (arith, ints, h.down);
-      bottom = omega (arith, ints, last.to_bottom);
+      bottom = w.bottom;
     }
-
--- a rectangle whose points are a surface's lies on it
-pub frame_lies_in : (r : Rect) (size : Size) → ((p : Point) → IsIn p r → IsIn p (whole size)) → (((p : Point) → ¬ IsIn p r) → r ≡ no_rect) → LiesIn r size
-frame_lies_in r size inside zeros = elim (cases_Bool (has_points r)) [
-  | inl e ↦ let w = within_edges r (whole size) inside ((has_points-HasPoints r).0 e) in
-      record { left = w.left; across = w.across; right = w.right; top = w.top; down = w.down; bottom = w.bottom }
-  | inr e ↦ rw (zeros (λ p h. false≢true (sym e ∙ (has_points-HasPoints r).1 (has_point h)))) (grind (arith, ints))
-]
 
 -- rectangles within one that lies in a surface lie there
 pub all_lie_in : (frame : Rect) (size : Size) (rects : List Rect) → LiesIn frame size → All (LiesWithin frame) rects → All (λ r. LiesIn r size) rects
@@ -83,13 +63,12 @@ module _ (frame r : Rect) (size : Size) (common : IsFrameOf frame r size) where
       (λ h. (is_in-IsIn p frame).1 ((common p).1 ((is_in-IsIn p r).0 h, (is_in-IsIn p (whole size)).0 there)))
       (λ h. (is_in-IsIn p r).1 ((common p).0 ((is_in-IsIn p frame).0 h)).0)
 
-  -- a call whose frame meets the clip reaches a point in it
-  pub reaches : (call : DrawCall) (clip : Option (List Rect)) → rect_of call ≡ r → LetsThrough clip frame → Reaches clip call size
-  reaches call clip e m =
+  -- a drawing whose frame meets the clip reaches a point in it
+  pub reaches : (c : DeskCommand) → rect_of c.call ≡ r → LetsThrough c.clip frame → Reaches (area_of c) size
+  reaches c e m =
       let h = (common m.point).0 ((is_in-IsIn m.point frame).0 m.inside) in
       record {
         point = m.point;
         inside = (is_in-IsIn m.point (whole size)).1 h.1;
-        clipped = m.held;
-        reached = ap (is_in m.point) e ∙ (is_in-IsIn m.point r).1 h.0;
+        reached = both_true m.held (ap (is_in m.point) e ∙ (is_in-IsIn m.point r).1 h.0);
       }

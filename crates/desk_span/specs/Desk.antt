@@ -1,24 +1,25 @@
 -- The state of a desk, and one command on it.
-use Rattle.std.specs.Prelude.{ℕ, ◌*◌, ◌==◌, Bool, true, List, [], ◌∷◌, ◌++◌, length, map, replicate, slice_index_or, slice_set}
+use Rattle.std.specs.Prelude.{ℕ, ◌*◌, ◌+◌, ◌-ℤ◌, Bool, true, false, List, [], ◌∷◌, ◌++◌, length, map, replicate, slice_get, slice_index_or, slice_set}
 use Rattle.std.specs.Prelude.{Option, Some, None, option_map, unwrap_or, ◌&&◌, if◌then◌else◌}
 use Rattle.geom_base.specs.declared.point.Point.{Point}
 use Rattle.geom_base.specs.declared.rect.Rect.{Rect}
 use Rattle.geom_base.specs.declared.size.Size.{Size}
-use Rattle.geom_base.specs.Points.{is_in_some}
+use Rattle.geom_base.specs.Points.{is_in, is_in_some, moved, whole}
 use Rattle.pix_format.specs.declared.format.Format.{Format}
 use Rattle.pix_format.specs.declared.format.Format.TheVariants.{B8}
 use Rattle.pix_format.specs.declared.rgb.Rgb.{Rgb}
 use Rattle.pix_format.specs.Standard.{standard_colours}
 use Rattle.pix_format.specs.Value.{black}
 use Rattle.pix_format.specs.Xlate.{Translation}
-use Rattle.geom_base.specs.Step.{Change}
+use Rattle.geom_base.specs.Step.{Area, Change}
 use Rattle.surf_obj.specs.Surface.{Surface, changed}
 use Rattle.brush_obj.specs.Brush.{tiled}
-use Rattle.brush_obj.specs.Calls.{Operands, blt_operands, new_of_call, not_there, reach_of_call, shown}
+use Rattle.brush_obj.specs.Calls.{Operands, as_kept, new_of_call, not_there, reach_of_call, shown}
 use Rattle.brush_obj.specs.Image.{Image}
 use Rattle.brush_obj.specs.declared.face.BrushFace.{BrushFace}
 use Rattle.brush_obj.specs.declared.face.BrushFace.TheVariants as faces
 use Rattle.script_orders.specs.Live.{Live, Look}
+use Rattle.script_orders.specs.Rows.{zero_point}
 use Rattle.script_orders.specs.declared.desk_command.BrushUse.{BrushUse}
 use Rattle.script_orders.specs.declared.desk_command.BrushUse.TheVariants as uses
 use Rattle.script_orders.specs.declared.desk_command.DeskCommand.{DeskCommand}
@@ -34,9 +35,16 @@ use Rattle.script_orders.specs.declared.script_command.ScriptCommand.{ScriptComm
 use Rattle.script_orders.specs.declared.script_command.ScriptCommand.TheVariants.{Create, Delete, Brush, Draw, Dump, Sum, Nothing}
 use Rattle.desk_span.specs.Reports.{Told, report_on, part_of}
 
--- the screen; the bitmaps in the order in which they were made, none where one is gone; and the brushes in theirs
+-- where a screen stands: the point of the desk that its first point is, and what its surface looks like
+pub record ScreenAt : Type 0 where
+  pub at : Point
+  pub look : Look
+
+-- the screens in their order, where each stands and what it shows; the bitmaps in the order in which they were made, none where one is gone;
+-- and the brushes in theirs
 pub record State : Type 0 where
-  pub screen : Surface
+  pub places : List ScreenAt
+  pub screens : List Surface
   pub bitmaps : List (Option Surface)
   pub brushes : List BrushFace
 
@@ -44,14 +52,21 @@ pub record State : Type 0 where
 abbrev pub blank : Size → Format → List Rgb → Surface
 blank size format table = record { size = size; format = format; table = table; values = replicate (size.w * size.h) 0 }
 
--- before the first command
-abbrev pub first_state : Size → State
-first_state size = record { screen = blank size B8 (standard_colours B8); bitmaps = []; brushes = [] }
-
--- what is there
+-- a surface that looks so
 abbrev pub look_of : Surface → Look
 look_of t = record { size = t.size; format = t.format }
 
+-- a screen whose first point is the desk's
+abbrev pub at_first : Surface → ScreenAt
+at_first t = record { at = zero_point; look = look_of t }
+
+-- before the first command
+abbrev pub first_state : Size → State
+first_state size =
+    let screen = blank size B8 (standard_colours B8) in
+    record { places = at_first screen ∷ []; screens = screen ∷ []; bitmaps = []; brushes = [] }
+
+-- what is there
 abbrev pub live_of : State → Live
 live_of s = record { bitmaps = map (option_map look_of) s.bitmaps; brushes = length s.brushes }
 
@@ -60,19 +75,12 @@ bitmap_at s n = slice_index_or s.bitmaps n None
 
 -- the surface of a name, where it is there
 abbrev pub surface_at : State → Named → Option Surface
-surface_at s (Screen n) = if n == 0 then Some s.screen else None
+surface_at s (Screen n) = slice_get s.screens n
 surface_at s (Bitmap n) = bitmap_at s n
 
 -- a row of values as a surface of one row that looks like another
 abbrev pub row_like : Surface → List ℕ → Surface
 row_like t values = record { size = record { w = length values; h = 1 }; format = t.format; table = t.table; values = values }
-
--- where a drawing on a surface takes its source from, as it was before the command
-abbrev pub source_surface : State → Surface → Feed → Option Surface
-source_surface s t feeds.Nothing = None
-source_surface s t feeds.Desk = Some s.screen
-source_surface s t (feeds.Bitmap n) = bitmap_at s n
-source_surface s t (feeds.Row values) = Some (row_like t values)
 
 abbrev pub mask_surface : State → Option ℕ → Option Surface
 mask_surface s None = None
@@ -93,14 +101,43 @@ shown_by None = not_there
 abbrev pub translation : Surface → Surface → Rgb → Translation
 translation s t back = record { from = s.format; from_table = s.table; to = t.format; to_table = t.table; back = back }
 
+-- the values of a surface as a surface t keeps them, or none where there is no surface
+abbrev pub kept_by : Surface → Rgb → Option Surface → Point → Option ℕ
+kept_by t back (Some s) = as_kept (translation s t back) (shown s.size s.values)
+kept_by t back None = not_there
+
+-- a point of the desk as a screen counts its points, and whether the screen has it
+abbrev pub on_screen : ScreenAt → Point → Point
+on_screen w p = record { x = p.x -ℤ w.at.x; y = p.y -ℤ w.at.y }
+
+abbrev pub has_point : ScreenAt → Point → Bool
+has_point w p = is_in (on_screen w p) (whole w.look.size)
+
+-- the value at a point of the desk: that of the first screen that has the point
+abbrev pub kept_on_desk : Surface → Rgb → List ScreenAt → List Surface → Point → Option ℕ
+kept_on_desk t back [] screens p = None
+kept_on_desk t back (w ∷ places) [] p = None
+kept_on_desk t back (w ∷ places) (s ∷ screens) p =
+    if has_point w p then kept_by t back (Some s) (on_screen w p) else kept_on_desk t back places screens p
+
+-- the source of a drawing on a surface, as it was before the command
+abbrev pub source_at : State → Surface → Rgb → Feed → Point → Option ℕ
+source_at s t back feeds.Nothing = not_there
+source_at s t back feeds.Desk = kept_on_desk t back s.places s.screens
+source_at s t back (feeds.Bitmap n) = kept_by t back (bitmap_at s n)
+source_at s t back (feeds.Row values) = kept_by t back (Some (row_like t values))
+
 -- what a drawing on a surface draws with
 abbrev pub operands_of : State → DeskCommand → Surface → Operands
-operands_of s c t =
-    let source = source_surface s t c.source in
-    blt_operands (shown_by source) (shown_by (mask_surface s c.mask)) (translation (unwrap_or source t) t c.back)
-    (tiled (face_of s c.brush) t.format t.table) t.format
+operands_of s c t = record {
+  source = source_at s t c.back c.source;
+  clear = λ p. false;
+  mask = shown_by (mask_surface s c.mask);
+  pattern = tiled (face_of s c.brush) t.format t.table;
+  format = t.format;
+}
 
--- the new value at a point of a surface that is drawn on, by the state before the command
+-- the new value of a surface that is drawn on, at a point in the drawing's own coordinates, by the state before the command
 abbrev pub new_of : State → DeskCommand → Surface → Change
 new_of s c t = new_of_call c.call (operands_of s c t)
 
@@ -109,20 +146,33 @@ abbrev pub in_clip : Option (List Rect) → Point → Bool
 in_clip (Some rects) p = is_in_some p rects
 in_clip None p = true
 
--- a surface after a drawing with this report on it: each point that the call reaches in the clip has its new value, all at once; with a
--- report only the points that it names
-abbrev pub drawn : State → DeskCommand → Option Told → Surface → Surface
-drawn s c report t = changed (new_of s c t) (λ p. part_of report p && (in_clip c.clip p && reach_of_call c.call p)) t
+-- the points that a drawing reaches in its clip, in its own coordinates
+abbrev pub area_of : DeskCommand → Area
+area_of c p = in_clip c.clip p && reach_of_call c.call p
 
--- what the output names of what is drawn on
-abbrev pub name_of : Spot → Named
-name_of spots.Desk = Screen 0
-name_of (spots.Bitmap n) = Bitmap n
+-- a target's point in the coordinates of a drawing on it: on a screen those are the desk's
+abbrev pub first_point : State → ℕ → Point
+first_point s n = slice_index_or (map (λ (w : ScreenAt). w.at) s.places) n zero_point
 
--- the desk after a drawing; the desk's only screen has the desk's own coordinates
+abbrev pub asked_point : State → Named → Point → Point
+asked_point s (Screen n) p = moved p (first_point s n)
+asked_point s (Bitmap n) p = p
+
+-- a target after a drawing with these reports: each point that the call reaches in the clip has its new value, all at once; of a target with
+-- a report only the points that the report names
+abbrev pub drawn : State → DeskCommand → List Told → Named → Surface → Surface
+drawn s c told q t =
+    changed (λ p. new_of s c t (asked_point s q p)) (λ p. part_of (report_on told q) p && area_of c (asked_point s q p)) t
+
+-- the screens after a drawing on each, the first of these being number n
+abbrev pub drawn_screens : State → DeskCommand → List Told → ℕ → List Surface → List Surface
+drawn_screens s c told n [] = []
+drawn_screens s c told n (t ∷ screens) = drawn s c told (Screen n) t ∷ drawn_screens s c told (n + 1) screens
+
+-- the desk after a drawing
 abbrev pub drawn_on : State → DeskCommand → List Told → Spot → State
-drawn_on s c told spots.Desk = record s { screen = drawn s c (report_on told (Screen 0)) s.screen }
-drawn_on s c told (spots.Bitmap n) = record s { bitmaps = slice_set s.bitmaps n (option_map (drawn s c (report_on told (Bitmap n))) (bitmap_at s n)) }
+drawn_on s c told spots.Desk = record s { screens = drawn_screens s c told 0 s.screens }
+drawn_on s c told (spots.Bitmap n) = record s { bitmaps = slice_set s.bitmaps n (option_map (drawn s c told (Bitmap n)) (bitmap_at s n)) }
 
 -- a surface as the image of a pattern, with the background colour in force
 abbrev pub image_of : Surface → Rgb → Image

@@ -1,5 +1,5 @@
 -- Of private calls: a desk as it stands beside one of its surfaces that is drawn on.
-use Rattle.std.specs.Prelude.{◌≡◌, ◌≢◌, ◌<◌, ◌^◌, ℕ, All, nat_eq, Bool, true, false, List, Option, Some, None, map, slice_index_or}
+use Rattle.std.specs.Prelude.{◌≡◌, ◌≢◌, ◌<◌, ◌^◌, ℕ, All, nat_eq, Bool, true, false, List, [], ◌∷◌, Option, Some, None, map, slice_get, slice_index_or}
 use Rattle.std.specs.Option.{option_copied}
 use Rattle.pix_format.specs.declared.format.Format.{Format}
 use Rattle.pix_format.specs.declared.rgb.Rgb.{Rgb}
@@ -15,13 +15,38 @@ use Rattle.script_orders.specs.declared.desk_command.Feed.{Feed}
 use Rattle.script_orders.specs.declared.desk_command.Feed.TheVariants as feeds
 use Rattle.script_orders.specs.declared.desk_command.Spot.{Spot}
 use Rattle.script_orders.specs.declared.desk_command.Spot.TheVariants as spots
+use Rattle.script_orders.specs.declared.named.Named.{Named}
+use Rattle.script_orders.specs.declared.named.Named.TheVariants.{Screen, Bitmap}
 use Rattle.desk_span.specs.declared.others.Others.{Others}
-use Rattle.desk_span.specs.Desk.{State, bitmap_at}
+use Rattle.desk_span.specs.declared.reports.Cause.TheVariants.{Memory}
+use Rattle.desk_span.specs.Reports.{Told}
+use Rattle.desk_span.specs.Desk.{State, at_first, bitmap_at, row_like}
+
+-- the one screen of a desk, whose first point is the desk's
+pub record IsAlone (s : State) (screen : Surface) : Type 0 where
+  pub places : s.places ≡ at_first screen ∷ []
+  pub screens : s.screens ≡ screen ∷ []
 
 -- the screen is beside a bitmap that is drawn on; or it is drawn on itself
 abbrev pub ScreenBeside : State → Spot → Surface → Option Surface → Type 0
-ScreenBeside s spots.Desk t screen = (screen ≡ None) × (s.screen ≡ t)
-ScreenBeside s (spots.Bitmap n) t screen = screen ≡ Some s.screen
+ScreenBeside s spots.Desk t screen = (screen ≡ None) × IsAlone s t
+ScreenBeside s (spots.Bitmap n) t screen = (u : Surface) × (screen ≡ Some u) × IsAlone s u
+
+-- the one target of a drawing on such a desk
+abbrev pub target_of : Spot → Named
+target_of spots.Desk = Screen 0
+target_of (spots.Bitmap n) = Bitmap n
+
+-- the report that memory was wanting for it
+abbrev pub wanting : Spot → Told
+wanting spot = record { target = target_of spot; cause = Memory; rects = [] }
+
+-- the surface that is the source of a drawing on another one, on such a desk
+abbrev pub source_surface : State → Surface → Feed → Option Surface
+source_surface s t feeds.Nothing = None
+source_surface s t feeds.Desk = slice_get s.screens 0
+source_surface s t (feeds.Bitmap n) = bitmap_at s n
+source_surface s t (feeds.Row values) = Some (row_like t values)
 
 -- what is drawn on isn't this bitmap
 abbrev pub IsOther : Spot → ℕ → Type 0

@@ -2,6 +2,7 @@ pub mod Reports
 pub mod Desk
 pub mod LiveLaws
 pub mod Meeting
+pub mod Telling
 pub mod InnerBeside
 pub mod InnerDrawing
 pub mod InnerFrames

@@ -1,16 +1,19 @@
 //! The desk.
 
-ghost use Rattle.std.specs.Prelude.{◌≡◌, [], IfOk, OnOk, OnErr, Some};
+ghost use Rattle.std.specs.Prelude.{◌≡◌, [], ◌∷◌, IfOk, OnOk, OnErr, Some};
 ghost use Rattle.script_orders.specs.Asked.{CanCreate, IsSurfaceSize};
 ghost use Rattle.script_orders.specs.Live.{Any, CanDraw, FaceIsThere, IsThere, NamedIsThere};
 ghost use Rattle.script_orders.specs.declared.script_command.ScriptCommand.TheVariants as asked;
 ghost use Rattle.desk_span.specs.Desk.{bitmap_at, carried, face_made, first_state, live_of, surface_at};
+ghost use Rattle.desk_span.specs.InnerBeside.{target_of, wanting};
 ghost use Rattle.desk_span.specs.Meeting.{Meets};
+ghost use Rattle.desk_span.specs.Telling.{AreReports, TellsAs};
 ghost use Rattle.script_orders.specs.declared.desk_command.Spot.TheVariants as spots;
 
 use crate::canvas::Canvas;
 use crate::draw::draw_beside;
 use crate::others::Others;
+use crate::reports::{Cause, DeskOutcome, Report, Reports};
 use brush_obj::BrushObj;
 use geom_base::Size;
 use pix_format::{ColourTable, Format, Rgb};
@@ -29,11 +32,12 @@ pub struct Desk {
 
 impl Model for Desk {
     ghost use Rattle.desk_span.specs.InnerBeside.{faces_of};
-    ghost use Rattle.desk_span.specs.Desk.{State};
+    ghost use Rattle.std.specs.Prelude.{[], ◌∷◌};
+    ghost use Rattle.desk_span.specs.Desk.{State, at_first};
 
     ghost Value = { State };
 
-    ghost view = { λ d. record { screen = d.screen; bitmaps = d.bitmaps.items; brushes = faces_of d.brushes.items } };
+    ghost view = { λ d. record { places = at_first d.screen ∷ []; screens = d.screen ∷ []; bitmaps = d.bitmaps.items; brushes = faces_of d.brushes.items } };
 }
 
 impl Desk {
@@ -85,10 +89,8 @@ impl Desk {
     {
         let table = ColourTable::of(alloc, order.table.colours())?;
         let bitmap = Canvas::new(alloc, order.size, order.format, table)?;
-        match self.bitmaps.push(Some(bitmap)) {
-            Ok(()) => Ok(()),
-            Err(_) => Err(AllocError),
-        }
+        self.bitmaps.push(Some(bitmap))?;
+        Ok(())
     }
 
     /// Takes a bitmap away.
@@ -110,10 +112,8 @@ impl Desk {
         ensures err { OnErr result (self.new ≡ self.old) }
     {
         let brush = self.brush(alloc, order.face, order.back)?;
-        match self.brushes.push(brush) {
-            Ok(()) => Ok(()),
-            Err(_) => Err(AllocError),
-        }
+        self.brushes.push(brush)?;
+        Ok(())
     }
 
     /// The brush that is made of this, with the background colour in force.
@@ -128,16 +128,39 @@ impl Desk {
         }
     }
 
-    /// Carries out a drawing.
+    /// Carries out a drawing, with its reports.
+    pub fn draw(
+        &mut self,
+        alloc: Global,
+        command: &DeskCommand,
+        reports: &mut Reports,
+    ) -> DeskOutcome
+        requires { CanDraw (live_of self.old) command.now }
+        ensures shows { self.new ≡ carried (asked.Draw command.now) reports.new self.old }
+        ensures reports { AreReports self.old command.now reports.new }
+        ensures outcome { TellsAs result reports.new }
+    {
+        reports.clear();
+        match self.draw_on_target(alloc, command) {
+            Ok(()) => DeskOutcome::All,
+            Err(_) => {
+                let target = target_of(command.target);
+                reports.add(Report::of(target, Cause::Memory, Vec::new(alloc)));
+                DeskOutcome::Parted
+            }
+        }
+    }
+
+    /// Carries out a drawing whole.
     ///
     /// # Errors
     ///
-    /// `AllocError` for want of memory, where the drawing meets what it draws on; the desk is unchanged then.
-    pub fn draw(&mut self, alloc: Global, command: &DeskCommand) -> Result<(), AllocError>
+    /// `AllocError` for want of memory, where the drawing meets its target; nothing is drawn then.
+    fn draw_on_target(&mut self, alloc: Global, command: &DeskCommand) -> Result<(), AllocError>
         requires { CanDraw (live_of self.old) command.now }
         ensures ok { OnOk result (self.new ≡ carried (asked.Draw command.now) [] self.old) }
-        ensures err { OnErr result (self.new ≡ self.old) }
-        ensures meets { OnErr result (Meets self.old command.now) }
+        ensures err { OnErr result (self.new ≡ carried (asked.Draw command.now) (wanting command.now.target ∷ []) self.old) }
+        ensures meets { OnErr result (Meets self.old command.now (target_of command.now.target)) }
     {
         match command.target {
             Spot::Desk => self.draw_on_screen(alloc, command),
@@ -149,8 +172,8 @@ impl Desk {
         requires can { CanDraw (live_of self.old) command.now }
         requires target { command.now.target ≡ spots.Desk }
         ensures ok { OnOk result (self.new ≡ carried (asked.Draw command.now) [] self.old) }
-        ensures err { OnErr result (self.new ≡ self.old) }
-        ensures meets { OnErr result (Meets self.old command.now) }
+        ensures err { OnErr result (self.new ≡ carried (asked.Draw command.now) (wanting command.now.target ∷ []) self.old) }
+        ensures meets { OnErr result (Meets self.old command.now (target_of command.now.target)) }
     {
         let others = Others {
             screen: None,
@@ -170,8 +193,8 @@ impl Desk {
         requires can { CanDraw (live_of self.old) command.now }
         requires target { command.now.target ≡ spots.Bitmap number }
         ensures ok { OnOk result (self.new ≡ carried (asked.Draw command.now) [] self.old) }
-        ensures err { OnErr result (self.new ≡ self.old) }
-        ensures meets { OnErr result (Meets self.old command.now) }
+        ensures err { OnErr result (self.new ≡ carried (asked.Draw command.now) (wanting command.now.target ∷ []) self.old) }
+        ensures meets { OnErr result (Meets self.old command.now (target_of command.now.target)) }
     {
         let place = number as usize;
         let mut target = match self.bitmaps[place].take() {
@@ -186,5 +209,15 @@ impl Desk {
         let drawn = draw_beside(alloc, &mut target, others, command);
         self.bitmaps[place] = Some(target);
         drawn
+    }
+}
+
+/// The one target of a drawing.
+fn target_of(spot: Spot) -> Named
+    ensures { result ≡ target_of spot }
+{
+    match spot {
+        Spot::Desk => Named::Screen(0),
+        Spot::Bitmap(number) => Named::Bitmap(number),
     }
 }

@@ -11,14 +11,14 @@ ghost use Rattle.brush_obj.specs.Calls.{new_of_copy};
 ghost use Rattle.brush_obj.specs.declared.draw_call.DrawCall.TheVariants.{Copy};
 ghost use Rattle.script_orders.specs.Asked.{MaskIsOther, RowIsCopied};
 ghost use Rattle.script_orders.specs.declared.desk_command.Feed.TheVariants.{Row};
-ghost use Rattle.desk_span.specs.Desk.{State, drawn, new_of};
+ghost use Rattle.desk_span.specs.Desk.{State, area_of, new_of};
 ghost use Rattle.desk_span.specs.Meeting.{Reaches};
 ghost use Rattle.desk_span.specs.InnerBeside.{DrawsOn, IsBeside, IsNoRow, WasMade};
 ghost use Rattle.desk_span.specs.InnerDrawing.{holding};
+ghost use Rattle.desk_span.specs.InnerFrames.{LetsThrough};
 ghost use Rattle.desk_span.specs.InnerRows.{row_operands};
 
 use crate::canvas::Canvas;
-use crate::frame::{frame_of, meets};
 use crate::inputs::CanvasInputs;
 use crate::others::{BLACK, Others, is_own, plain_colour};
 use crate::row::{ORIGIN, columns_between};
@@ -39,6 +39,16 @@ fn region_of(clip: &Option<NamedRegion>) -> Option<&Region>
     }
 }
 
+/// A clip lets a point of a frame through. Without a region it lets all through.
+fn meets(clip: Option<&Region>, frame: &Rect) -> bool
+    ensures { IsTrue result ↔ LetsThrough (option_copied clip.entry) frame.now }
+{
+    match clip {
+        Some(region) => region.meets(frame),
+        None => frame.has_points(),
+    }
+}
+
 /// Carries out a drawing on a surface, beside the rest of the desk.
 ///
 /// # Errors
@@ -52,12 +62,13 @@ pub fn draw_beside(
 ) -> Result<(), AllocError>
     requires can { DrawsOn target.old command.now }
     requires made { WasMade (length others.brushes.now) command.now.brush }
-    ensures ok { OnOk result ((s : State) → IsBeside s command.now.target target.old others.entry → target.new ≡ drawn s command.now None target.old) }
+    ensures ok { OnOk result ((s : State) → IsBeside s command.now.target target.old others.entry →
+        target.new ≡ changed (new_of s command.now target.old) (area_of command.now) target.old) }
     ensures err { OnErr result (target.new ≡ target.old) }
-    ensures meets { OnErr result (Reaches command.now.clip command.now.call target.old.size) }
+    ensures meets { OnErr result (Reaches (area_of command.now) target.old.size) }
 {
     let region = region_of(&command.clip);
-    let frame = frame_of(command.call.rect(), target.size());
+    let frame = command.call.rect().cut_to(target.size());
     if !meets(region, &frame) {
         return Ok(());
     }

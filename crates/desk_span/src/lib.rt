@@ -1,16 +1,18 @@
-//! The desk: a screen, bitmaps and brushes, and each command on them.
+//! The desk: screens, bitmaps and brushes, and each command on them.
 //!
-//! `State` of `specs/Desk.antt` is the desk as lists, `carried` one command on it, `Meets` of `specs/Meeting.antt` a drawing that reaches a
-//! point of what it draws on. A desk asks that a command names what is there, which a script that was read keeps to.
+//! `State` of `specs/Desk.antt` is the desk as lists, `carried` one command on it with its reports, `Meets` of `specs/Meeting.antt` a drawing
+//! that reaches a point of a target, and `AreReports` of `specs/Telling.antt` what a drawing may report. A desk asks that a command names what
+//! is there, which a script that was read keeps to. Today it has one screen, at its first point.
 #![tactic(auto)]
 
 mod canvas;
 mod desk;
 mod draw;
-mod frame;
 mod inputs;
 mod others;
+mod reports;
 mod row;
 
 pub use canvas::Canvas;
 pub use desk::Desk;
+pub use reports::{Cause, DeskOutcome, Report, Reports};

@@ -6,8 +6,8 @@ ghost use Rattle.brush_obj.specs.declared.face.BrushFace.TheVariants as faces;
 ghost use Rattle.script_orders.specs.Asked.{MaskIsOther};
 ghost use Rattle.geom_base.specs.declared.target.Target.{Target};
 ghost use Rattle.surf_obj.specs.Surface.{Surface};
-ghost use Rattle.desk_span.specs.Desk.{State, face_of, mask_surface, source_surface};
-ghost use Rattle.desk_span.specs.InnerBeside.{IsBeside, IsNoRow, WasMade, is_own, plain_colour};
+ghost use Rattle.desk_span.specs.Desk.{State, face_of, mask_surface};
+ghost use Rattle.desk_span.specs.InnerBeside.{IsBeside, IsNoRow, WasMade, is_own, plain_colour, source_surface};
 ghost use Rattle.desk_span.specs.InnerDrawing.{held_for, source_held};
 
 use crate::canvas::Canvas;

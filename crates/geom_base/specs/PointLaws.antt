@@ -1,8 +1,8 @@
 -- Laws of rectangles and their points.
-use Rattle.std.proofs.Common.{◌≡◌, refl, ℤ, ◌+ℤ◌, ◌≤ℤ◌, ◌<ℤ◌, ◌↔◌, arith, IsTrue, Bool}
+use Rattle.std.proofs.Common.{◌≡◌, refl, ℤ, pos, ◌+ℤ◌, ◌-ℤ◌, ◌≤ℤ◌, ◌<ℤ◌, ◌↔◌, arith, IsTrue, Bool}
 use Rattle.std.specs.Int.{int_max, int_min}
 use Rattle.std.proofs.lemmas.Int.{ints, clamps}
-use Rattle.geom_base.specs.Points.{IsIn, is_in, moved}
+use Rattle.geom_base.specs.Points.{HasPoints, IsIn, is_in, moved}
 use Rattle.geom_base.specs.declared.point.Point.{Point}
 use Rattle.geom_base.specs.declared.rect.Rect.{Rect}
 
@@ -76,3 +76,31 @@ same_edges a b l t r d =
     let e : record { left = a.left; top = a.top; right = a.right; bottom = a.bottom } ≡
     record { left = b.left; top = b.top; right = b.right; bottom = b.bottom } = rw (l, t, r, d) refl in
     e
+
+-- a rectangle with a point has points
+pub has_point : {p : Point} {r : Rect} → IsIn p r → HasPoints r
+has_point h = record { across = omega (arith, ints, h.from_left, h.to_right); down = omega (arith, ints, h.from_top, h.to_bottom) }
+
+-- a rectangle lies within the edges of another
+pub record LiesBetween (outer r : Rect) : Type 0 where
+  pub left : outer.left ≤ℤ r.left
+  pub right : r.right ≤ℤ outer.right
+  pub top : outer.top ≤ℤ r.top
+  pub bottom : r.bottom ≤ℤ outer.bottom
+
+-- a rectangle with points lies so in one that has them all
+pub lies_between : (r s : Rect) → ((p : Point) → IsIn p r → IsIn p s) → HasPoints r → LiesBetween s r
+lies_between r s inside h =
+    let first = inside (record { x = r.left; y = r.top }) (first_is_in r h.across h.down) in
+    let last = inside (record { x = r.right -ℤ pos 1; y = r.bottom -ℤ pos 1 }) (record {
+      from_left = omega (arith, ints, h.across);
+      to_right = omega (arith, ints);
+      from_top = omega (arith, ints, h.down);
+      to_bottom = omega (arith, ints);
+    }) in
+    record {
+      left = first.from_left;
+      right = omega (arith, ints, last.to_right);
+      top = first.from_top;
+      bottom = omega (arith, ints, last.to_bottom);
+    }

@@ -1,9 +1,10 @@
-ghost use Rattle.std.specs.Prelude.{◌≡◌, pos, ◌+ℤ◌, ◌≤ℤ◌, ◌<ℤ◌, ◌↔◌, IsTrue, FitsSigned};
+ghost use Rattle.std.specs.Prelude.{◌≡◌, ◌≤◌, pos, ◌+ℤ◌, ◌≤ℤ◌, ◌<ℤ◌, ◌↔◌, IsTrue, FitsSigned};
 ghost use Rattle.std.specs.Int.{w32};
-ghost use Rattle.geom_base.specs.Points.{HasPoints, IsIn, has_points, moved, no_rect, moved_rect};
+ghost use Rattle.geom_base.specs.Points.{HasPoints, IsIn, LiesIn, Meet, has_points, moved, no_rect, moved_rect, most_side, whole};
 ghost use Rattle.geom_base.specs.declared.point.Point.{Point};
 
 use crate::point::Point;
+use crate::size::Size;
 
 /// A rectangle by its edges; its right and its lower edge are not part of it.
 #[derive(Clone, Copy, Debug, PartialEq, Eq)]
@@ -44,6 +45,23 @@ impl Rect {
             right,
             bottom,
         }
+    }
+
+    /// What lies of it on a surface of a size.
+    pub fn cut_to(self, size: Size) -> Rect
+        requires width { size.w ≤ most_side }
+        requires height { size.h ≤ most_side }
+        ensures common { (p : Point) → IsIn p result ↔ (IsIn p self × IsIn p (whole size)) }
+        ensures inside { LiesIn result size }
+    {
+        self.intersect(size.whole())
+    }
+
+    /// Whether it has a point in common with another.
+    pub fn meets(self, other: Rect) -> bool
+        ensures { IsTrue result ↔ Meet self other }
+    {
+        self.intersect(other).has_points()
     }
 
     /// Whether it has points.
@@ -108,6 +126,7 @@ mod tests {
         ];
         for (a, b, want) in cases {
             assert_eq!(rt; a.intersect(b), want, "{a:?} and {b:?}");
+            assert_eq!(rt; a.meets(b), want.has_points(), "{a:?} and {b:?}");
         }
     }
 
@@ -121,6 +140,18 @@ mod tests {
             assert_eq!(rt; r.has_points(), want, "{r:?}");
         }
         assert_eq!(rt; Point::at(3, 4), Point { x: 3, y: 4 });
+    }
+
+    #[test]
+    fn cuts(rt: HostRuntime) {
+        let size = Size { w: 5, h: 3 };
+        assert_eq!(rt; size.whole(), rect(0, 0, 5, 3));
+        for (r, want) in [
+            (rect(-2, 1, 3, 9), rect(0, 1, 3, 3)),
+            (rect(5, 0, 9, 2), rect(0, 0, 0, 0)),
+        ] {
+            assert_eq!(rt; r.cut_to(size), want, "{r:?}");
+        }
     }
 
     #[test]

@@ -27,8 +27,8 @@ use Rattle.script_orders.specs.declared.desk_command.BrushUse.TheVariants as use
 use Rattle.script_names.specs.declared.entry.Bitmap.{Bitmap}
 use Rattle.script_orders.specs.declared.named.Named.{Named}
 use Rattle.script_orders.specs.declared.named.Named.TheVariants as named
-use Rattle.script_orders.specs.declared.orders.FaceOrder.{FaceOrder}
 use Rattle.script_orders.specs.declared.orders.FaceOrder.TheVariants.{Solid, Hatch, Pattern}
+use Rattle.script_names.specs.declared.faces.FaceAsked.{FaceAsked}
 use Rattle.script_names.specs.Names.{Name, NameMap, screen, no_clip, table, brush, bitmap, region}
 
 -- a name that is to be made: its spelling is asked first, and then whether it is free
@@ -151,15 +151,11 @@ hatch_in word =
     else if bytes_eq word (codes "diagcross") then Ok DiagCross
     else Err Spelling
 
--- what a brush is made of, and whether it isn't too large
-abbrev pub FaceAsked : Type 0
-FaceAsked = FaceOrder × Bool
-
 -- solid C
 abbrev pub solid_in : List (List ℕ) → Result FaceAsked Refusal
 solid_in words = do
   colour ← colour_in (word_at words 3)
-  Ok (Solid colour, true)
+  Ok (record { face = Solid colour; fits = true })
 
 -- hatch KIND FORE BACK
 abbrev pub hatched_in : List (List ℕ) → Result FaceAsked Refusal
@@ -167,13 +163,13 @@ hatched_in words = do
   kind ← hatch_in (word_at words 3)
   fore ← colour_in (word_at words 4)
   back ← colour_in (word_at words 5)
-  Ok (Hatch kind fore back, true)
+  Ok (record { face = Hatch kind fore back; fits = true })
 
 -- pattern BITMAP
 abbrev pub pattern_in : NameMap → List (List ℕ) → Result FaceAsked Refusal
 pattern_in names words = do
   b ← bitmap_in names (word_at words 3)
-  Ok (Pattern b.number, nat_le b.size.w most_pattern_side && nat_le b.size.h most_pattern_side)
+  Ok (record { face = Pattern b.number; fits = nat_le b.size.w most_pattern_side && nat_le b.size.h most_pattern_side })
 
 -- what a brush is made of, by the words from its third on
 abbrev pub face_in : NameMap → List (List ℕ) → Result FaceAsked Refusal

@@ -1,8 +1,8 @@
 //! What a name may stand for.
 
 use geom_base::Size;
-use pix_format::{ColourTable, Format};
-use script_orders::NamedRegion;
+use pix_format::Format;
+use script_orders::{NamedRegion, SharedTable};
 
 /// A bitmap as later lines need it.
 #[derive(Clone, Copy, Debug, PartialEq, Eq)]
@@ -19,7 +19,7 @@ pub enum Entry {
     Screen,
     /// No clip.
     NoClip,
-    Table(ColourTable),
+    Table(SharedTable),
     /// The brush of this number.
     Brush(u32),
     Bitmap(Bitmap),

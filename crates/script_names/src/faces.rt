@@ -4,44 +4,58 @@ ghost use Rattle.std.specs.Prelude.{◌≡◌, map};
 ghost use Rattle.script_names.specs.Names.{names_of};
 ghost use Rattle.script_names.specs.Fields.{solid_in, hatched_in, pattern_in, face_in};
 
-use crate::fields::{bitmap, hatch};
+use crate::fields::hatch;
 use crate::names::Names;
 use brush_obj::MOST_PATTERN_SIDE;
 use script_orders::FaceOrder;
 use script_words::{Refusal, colour, word};
 
+/// What a line asks a brush to be made of.
+#[derive(Clone, Copy, Debug, PartialEq, Eq)]
+pub struct FaceAsked {
+    pub face: FaceOrder,
+    /// No side of a pattern is too long.
+    pub fits: bool,
+}
+
 /// solid C
-fn solid(words: &[&[u8]]) -> Result<(FaceOrder, bool), Refusal>
+fn solid(words: &[&[u8]]) -> Result<FaceAsked, Refusal>
     ensures { result ≡ solid_in (map (λ w. w.now) words.now) }
 {
     let colour = colour(word(words, 3))?;
-    Ok((FaceOrder::Solid(colour), true))
+    Ok(FaceAsked {
+        face: FaceOrder::Solid(colour),
+        fits: true,
+    })
 }
 
 /// hatch KIND FORE BACK
-fn hatched(words: &[&[u8]]) -> Result<(FaceOrder, bool), Refusal>
+fn hatched(words: &[&[u8]]) -> Result<FaceAsked, Refusal>
     ensures { result ≡ hatched_in (map (λ w. w.now) words.now) }
 {
     let kind = hatch(word(words, 3))?;
     let fore = colour(word(words, 4))?;
     let back = colour(word(words, 5))?;
-    Ok((FaceOrder::Hatch(kind, fore, back), true))
+    Ok(FaceAsked {
+        face: FaceOrder::Hatch(kind, fore, back),
+        fits: true,
+    })
 }
 
 /// pattern BITMAP
-fn pattern(names: &Names<'_>, words: &[&[u8]]) -> Result<(FaceOrder, bool), Refusal>
+fn pattern(names: &Names<'_>, words: &[&[u8]]) -> Result<FaceAsked, Refusal>
     ensures { result ≡ pattern_in (names_of names.now) (map (λ w. w.now) words.now) }
 {
-    let bitmap = bitmap(names, word(words, 3))?;
+    let bitmap = names.bitmap(word(words, 3))?;
     let face = FaceOrder::Pattern {
         bitmap: bitmap.number,
     };
     let fits = bitmap.size.w <= MOST_PATTERN_SIDE && bitmap.size.h <= MOST_PATTERN_SIDE;
-    Ok((face, fits))
+    Ok(FaceAsked { face, fits })
 }
 
-/// What a brush is made of, by the words from its third on, and whether it isn't too large.
-pub fn face(names: &Names<'_>, words: &[&[u8]]) -> Result<(FaceOrder, bool), Refusal>
+/// What a brush is made of, by the words from its third on.
+pub fn face(names: &Names<'_>, words: &[&[u8]]) -> Result<FaceAsked, Refusal>
     ensures { result ≡ face_in (names_of names.now) (map (λ w. w.now) words.now) }
 {
     let form = word(words, 2);

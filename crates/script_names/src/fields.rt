@@ -1,22 +1,20 @@
 //! One word of a line, where names count.
 
-ghost use Rattle.std.specs.Prelude.{◌≡◌, ◌<◌, ◌≤◌, ◌^◌, ◌==◌, IfOk, IfErr, OnOk, Ok, Err, length, map};
+ghost use Rattle.std.specs.Prelude.{◌≡◌, ◌<◌, ◌≤◌, ◌^◌, ◌==◌, OnOk, length};
 ghost use Rattle.std.specs.Str.{bytes_eq};
-ghost use Rattle.pix_format.specs.Value.{colours_of};
 ghost use Rattle.script_words.specs.Asking.{ReadsAs};
 ghost use Rattle.script_words.specs.Bounds.{most_name_bytes};
 ghost use Rattle.script_names.specs.Names.{names_of};
-ghost use Rattle.script_names.specs.Fields.{new_name, spot_in, bitmap_in, region_in, clip_in, table_in, is_dash, spot_or_none};
+ghost use Rattle.script_names.specs.Fields.{new_name, spot_in, clip_in, is_dash, spot_or_none};
 ghost use Rattle.script_names.specs.Fields.{bitmap_or_none, brush_in, brush_or_none, format_in, value_in, hatch_in, mix_in, named_in};
 
 use crate::entry::{Bitmap, Entry};
 use crate::names::Names;
 use brush_obj::Hatch;
-use pix_format::{ColourTable, Format};
+use pix_format::Format;
 use rop_mix::Mix;
 use script_orders::{BrushUse, Named, NamedRegion, Spot};
-use script_words::{ReadError, Refusal, colour, count, hexadecimal, is_name, word};
-use std::alloc::Global;
+use script_words::{ReadError, Refusal, colour, count, hexadecimal, is_name};
 
 /// A name that is to be made: its spelling is asked first, and then whether it is free.
 pub fn new_name(names: &Names<'_>, word: &[u8]) -> Result<(), Refusal>
@@ -43,27 +41,6 @@ pub fn spot(names: &Names<'_>, word: &[u8]) -> Result<Spot, Refusal>
     }
 }
 
-/// A bitmap.
-pub fn bitmap(names: &Names<'_>, word: &[u8]) -> Result<Bitmap, Refusal>
-    ensures { result ≡ bitmap_in (names_of names.now) word.now }
-{
-    match names.get(word) {
-        Some(Entry::Bitmap(bitmap)) => Ok(*bitmap),
-        _ => Err(Refusal::UnknownName),
-    }
-}
-
-/// A region.
-pub fn region<'n>(names: &'n Names<'_>, word: &[u8]) -> Result<&'n NamedRegion, Refusal>
-    ensures ok { IfOk result (λ r. region_in (names_of names.now) word.now ≡ Ok r.now) }
-    ensures err { IfErr result (λ e. region_in (names_of names.now) word.now ≡ Err e) }
-{
-    match names.get(word) {
-        Some(Entry::Region(region)) => Ok(region),
-        _ => Err(Refusal::UnknownName),
-    }
-}
-
 /// A clip: none, or a region.
 pub fn clip(names: &Names<'_>, word: &[u8]) -> Result<Option<NamedRegion>, ReadError>
     ensures { ReadsAs (λ c. c) result (clip_in (names_of names.now) word.now) }
@@ -71,24 +48,6 @@ pub fn clip(names: &Names<'_>, word: &[u8]) -> Result<Option<NamedRegion>, ReadE
     match names.get(word) {
         Some(Entry::NoClip) => Ok(None),
         Some(Entry::Region(region)) => Ok(Some(region.shared()?)),
-        _ => Err(ReadError::Refused(Refusal::UnknownName)),
-    }
-}
-
-/// The table that a sixth word names, or the format's own where there is none.
-pub fn table(
-    alloc: Global,
-    names: &Names<'_>,
-    words: &[&[u8]],
-    format: Format,
-) -> Result<ColourTable, ReadError>
-    ensures { ReadsAs (λ t. t) result (table_in (names_of names.now) (map (λ w. w.now) words.now) (length (map (λ w. w.now) words.now)) format) }
-{
-    if words.len() != 6 {
-        return Ok(ColourTable::standard(alloc, format)?);
-    }
-    match names.get(word(words, 5)) {
-        Some(Entry::Table(table)) => Ok(ColourTable::of(alloc, table.colours())?),
         _ => Err(ReadError::Refused(Refusal::UnknownName)),
     }
 }
@@ -118,7 +77,7 @@ pub fn bitmap_or_none(names: &Names<'_>, word: &[u8]) -> Result<Option<Bitmap>, 
     if is_dash(word) {
         return Ok(None);
     }
-    let bitmap = bitmap(names, word)?;
+    let bitmap = names.bitmap(word)?;
     Ok(Some(bitmap))
 }
 
@@ -216,7 +175,7 @@ pub fn named(names: &Names<'_>, word: &[u8]) -> Result<Named, Refusal>
     ensures { result ≡ named_in (names_of names.now) word.now }
 {
     if word.first().is_some_and(|b| b.is_ascii_alphabetic()) {
-        let bitmap = bitmap(names, word)?;
+        let bitmap = names.bitmap(word)?;
         return Ok(Named::Bitmap(bitmap.number));
     }
     let screen = count(word, 0, 0)?;

@@ -12,10 +12,9 @@ mod operation;
 mod tails;
 
 pub use entry::{Bitmap, Entry};
-pub use faces::face;
+pub use faces::{FaceAsked, face};
 pub use fields::{
-    bitmap, bitmap_or_none, brush, brush_or_none, clip, format, mix, named, new_name, region, spot,
-    spot_or_none, table,
+    bitmap_or_none, brush, brush_or_none, clip, format, mix, named, new_name, spot, spot_or_none,
 };
 pub use names::Names;
 pub use operation::operation_named;

@@ -12,6 +12,7 @@ mod named_region;
 mod orders;
 mod script;
 mod script_command;
+mod shared_table;
 mod values;
 
 pub use desk_command::{BrushUse, DeskCommand, Feed, Spot};
@@ -24,4 +25,5 @@ pub use named_region::NamedRegion;
 pub use orders::{BrushOrder, CreateOrder, FaceOrder};
 pub use script::Script;
 pub use script_command::ScriptCommand;
+pub use shared_table::SharedTable;
 pub use values::Values;

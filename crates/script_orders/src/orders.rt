@@ -1,8 +1,9 @@
 //! What a script makes: bitmaps and brushes, each kind numbered in the order in which they are made.
 
+use crate::shared_table::SharedTable;
 use brush_obj::Hatch;
 use geom_base::Size;
-use pix_format::{ColourTable, Format, Rgb};
+use pix_format::{Format, Rgb};
 
 /// A bitmap to be made, whose values are all 0.
 #[derive(Drop)]
@@ -10,7 +11,7 @@ pub struct CreateOrder {
     pub number: u32,
     pub size: Size,
     pub format: Format,
-    pub table: ColourTable,
+    pub table: SharedTable,
 }
 
 /// What a brush is made of.

@@ -1,6 +1,7 @@
-use Rattle.std.proofs.Common.{◌≡◌, ℕ, ◌+◌, ◌<◌, ◌^◌, List, [], ◌∷◌, ◌++◌, None, Result, Ok, Err, length, true, ◌∙◌, refl}
+use Rattle.std.proofs.Common.{◌≡◌, ℕ, ◌+◌, ◌≤◌, ◌<◌, ◌^◌, List, [], ◌∷◌, ◌++◌, Some, None, Result, Ok, Err, length, true, ◌∙◌, refl, arith}
 use Rattle.std.specs.Prelude.{All, IfOk, IfSome, drop, nat_le, nat_lt, ◌&&◌}
 use Rattle.std.proofs.lemmas.Bool.{and_parts}
+use Rattle.std.proofs.lemmas.List.{length-set, length_push}
 use Rattle.std.proofs.lemmas.Result.{IfOk-at_ok}
 use Rattle.pix_format.specs.Value.{bits_of}
 use Rattle.brush_obj.specs.declared.draw_call.DrawCall.TheVariants as calls
@@ -14,8 +15,9 @@ use Rattle.script_words.specs.Spelling.{hexadecimal_in}
 use Rattle.script_words.specs.declared.refusal.Refusal.{Refusal}
 use Rattle.script_orders.specs.Asked.{Asked}
 use Rattle.script_orders.specs.Limits.{most_brushes, most_commands, most_tables}
-use Rattle.script_orders.specs.Live.{Live, SpotIsThere, BrushIsThere, FaceIsThere, NamedIsThere, CanRun, after}
+use Rattle.script_orders.specs.Live.{Live, SpotIsThere, BrushIsThere, FaceIsThere, NamedIsThere, CanRun, after, first_live}
 use Rattle.script_orders.specs.declared.script_command.ScriptCommand.{ScriptCommand}
+use Rattle.script_orders.specs.declared.script_command.ScriptCommand.TheVariants.{Create, Delete, Brush, Draw, Dump, Sum, Nothing}
 use Rattle.script_names.specs.FieldLaws.{value_fits}
 use Rattle.script_names.specs.Fields.{new_name, spot_in, bitmap_in, spot_or_none, bitmap_or_none, brush_in, brush_or_none}
 use Rattle.script_names.specs.Fields.{value_in, face_in, mix_in, named_in, clip_in}
@@ -27,10 +29,10 @@ use Rattle.script_read.specs.Drawing.{blt_from, copy_from, has_operands, is_mono
 use Rattle.script_read.specs.InnerKnows.{Knows, CanAsk, CanMean, IsKept}
 use Rattle.script_read.specs.Reading.{FirstRefusal, behind, followed, is_skipped, read_lines, read_text_line}
 use Rattle.script_read.specs.Regions.{named_region_in}
-use Rattle.script_read.specs.State.{ReaderState}
+use Rattle.script_read.specs.State.{ReaderState, first_reader_state}
 use Rattle.script_read.specs.declared.verb.Verb.{Verb}
 use Rattle.script_read.specs.declared.verb.Verb.TheVariants as verbs
-use Rattle.script_read.proofs.KnowsLemmas.{with_other, with_brush, with_bitmap, without_bitmap}
+use Rattle.script_read.proofs.KnowsLemmas.{knows_first, with_other, with_brush, with_bitmap, without_bitmap}
 use Rattle.script_read.proofs.ThereLemmas.{there, bitmap_named, spot_there, source_there, needed_there, feed_there, no_row, needed_no_row}
 use Rattle.script_read.proofs.ThereLemmas.{mask_kept, needed_kept, mask_there, mask_other, brush_there, with_there, face_there, named_there}
 use Rattle.script_read.proofs.ThereLemmas.{bitmap_there, IsAsked, create_asked, created}
@@ -80,9 +82,9 @@ unfolding read_brush
 brush_can s l words h =
     if_read _ (new_name s.names (word_at words 1)) _ (λ u e.
     if_read _ (face_in s.names words) _ (λ face ef.
-    if_asked _ (face.1 && has_room s && nat_lt s.brushes most_brushes) _ _ (λ t.
-    let fits = (and_parts face.1 _ (and_parts _ _ t).0).0 in
-    ((IfOk-at_ok (λ face. face.1 ≡ true → FaceIsThere l face.0) ef (face_there s words h) fits, h.brushes_made), with_brush (word_at words 1) h))))
+    if_asked _ (face.fits && has_room s && nat_lt s.brushes most_brushes) _ _ (λ t.
+    let fits = (and_parts face.fits _ (and_parts _ _ t).0).0 in
+    ((IfOk-at_ok (λ face. face.fits ≡ true → FaceIsThere l face.face) ef (face_there s words h) fits, h.brushes_made), with_brush (word_at words 1) h))))
 
 bitmap_can : LineCan read_bitmap
 unfolding read_bitmap keep_bitmap
@@ -217,6 +219,41 @@ text_line_can commands s l line h = if_either _ (is_skipped line) _ _ (λ t more
     (λ t. if_read _ (read_line commands s (words_of line)) _ (λ x e more k.
     let can = IfOk-at_ok (CanAsk l) e (line_can commands s l (words_of line) h) in
     (can.0, k (after x.0 l) can.1)))
+
+-- a command makes at most one bitmap
+few_after : (c : ScriptCommand) (l : Live) → length (after c l).bitmaps ≤ length l.bitmaps + 1
+few_after (Create o) l = omega (arith, length_push l.bitmaps (Some (record { size = o.size; format = o.format })))
+few_after (Delete n) l = omega (arith, length-set l.bitmaps n None)
+few_after (Brush o) l = omega arith
+few_after (Draw c) l = omega arith
+few_after (Dump q) l = omega arith
+few_after (Sum q) l = omega arith
+few_after Nothing l = omega arith
+
+-- what is there where so many commands were read
+pub record HasRead (s : ReaderState) (n : ℕ) : Type 0 where
+  pub live : Live
+  pub knows : Knows s live
+  pub few : length live.bitmaps ≤ n
+
+pub read_nothing : HasRead first_reader_state 0
+read_nothing = record { live = first_live; knows = knows_first; few = omega arith }
+
+-- no more bitmaps were made than commands are read
+pub made_few : {s : ReaderState} {n : ℕ} → HasRead s n → length s.made ≤ n
+made_few h = omega (arith, h.knows.bitmaps_made, h.few)
+
+-- one more line
+line_reads : (commands n : ℕ) (s : ReaderState) (line : List ℕ) → HasRead s n → IfOk (read_text_line commands s line) (λ x. HasRead x.1 (n + length x.0))
+unfolding read_text_line
+line_reads commands n s line h = if_either _ (is_skipped line) _ _ (λ t. record { live = h.live; knows = h.knows; few = omega (arith, h.few) })
+    (λ t. if_read _ (read_line commands s (words_of line)) _ (λ x e.
+    let can = IfOk-at_ok (CanAsk h.live) e (line_can commands s h.live (words_of line) h.knows) in
+    record { live = after x.0 h.live; knows = can.1; few = omega (arith, h.few, few_after x.0 h.live) }))
+
+pub read_on : (commands : ℕ) {n : ℕ} {s after : ReaderState} (line : List ℕ) (asked : List ScriptCommand) → HasRead s n →
+    read_text_line commands s line ≡ Ok (asked, after) → HasRead after (n + length asked)
+read_on commands {n} {s} line asked h e = IfOk-at_ok (λ x. HasRead x.1 (n + length x.0)) e (line_reads commands n s line h)
 
 behind_can : (l : Live) (front : List ScriptCommand) (s : ReaderState) (rest : Result Asked FirstRefusal) → CanGoOn l front s →
     ((t : Live) → Knows s t → IfOk rest (λ a. CanRun t a.commands)) → IfOk (behind front rest) (λ a. CanRun l a.commands)

@@ -26,6 +26,10 @@ behind-append : (front more : List ScriptCommand) (rest : Result Asked FirstRefu
 behind-append front more (Ok asked) = ap (λ xs. Ok (asked_as xs asked.names)) (sym (append_assoc front more asked.commands))
 behind-append front more (Err e) = refl
 
+pub behind_nothing : (rest : Result Asked FirstRefusal) → behind [] rest ≡ rest
+behind_nothing (Ok asked) = refl
+behind_nothing (Err e) = refl
+
 -- one more line
 pub line_more : {all : Result Asked FirstRefusal} (front : List ScriptCommand) (n : ℕ) (s after : ReaderState) (line : List ℕ) (lines : List (List ℕ))
     (asked : List ScriptCommand) → behind front (read_lines n (length front) s (line ∷ lines)) ≡ all →
@@ -77,8 +81,3 @@ pub few_more : (commands : List ScriptCommand) (asked : Option ScriptCommand) �
     IfSome asked (λ c. length commands < most_commands) → length (commands ++ option_to_list asked) ≤ most_commands
 few_more commands None h few = rw append-nil h
 few_more commands (Some c) h few = omega (arith, length-append commands (c ∷ []))
-
--- no more bitmaps are made than commands are read
-pub made_more : (commands : List ScriptCommand) (asked : Option ScriptCommand) (made after : ℕ) → made ≤ length commands →
-    after ≤ made + length (option_to_list asked) → after ≤ length (commands ++ option_to_list asked)
-made_more commands asked made after h grows = omega (arith, length-append commands (option_to_list asked))

@@ -114,7 +114,7 @@ pub with_there : (s : ReaderState) {l : Live} (word : List ℕ) → Knows s l �
 with_there s word h = if_either _ (is_dash word) _ _ (λ t. tt) (λ t. brush_there s word h)
 
 -- what a brush is made of
-pub face_there : (s : ReaderState) {l : Live} (words : List (List ℕ)) → Knows s l → IfOk (face_in s.names words) (λ face. face.1 ≡ true → FaceIsThere l face.0)
+pub face_there : (s : ReaderState) {l : Live} (words : List (List ℕ)) → Knows s l → IfOk (face_in s.names words) (λ face. face.fits ≡ true → FaceIsThere l face.face)
 face_there s {l} words h = if_either _ (bytes_eq (word_at words 2) (codes "solid")) _ _
     (λ t. if_read _ (colour_in (word_at words 3)) _ (λ colour e u. tt))
     (λ t. if_either _ (bytes_eq (word_at words 2) (codes "hatch")) _ _

@@ -31,7 +31,7 @@ use Rattle.script_read.specs.Drawing.{feed_from, needed_feed, needed_mask, has_o
 use Rattle.script_read.specs.Drawing.{is_other, number_of_mask, blt_from, copy_from, paint_from}
 use Rattle.script_names.specs.Fields.{new_name, spot_in, bitmap_in, spot_or_none, bitmap_or_none, brush_in, brush_or_none}
 use Rattle.script_names.specs.Fields.{format_in, table_in, value_in, face_in, mix_in, named_in, clip_in, operation_of}
-use Rattle.script_names.specs.Names.{NameMap, brush, bitmap, region, table, with_name, without_name}
+use Rattle.script_names.specs.Names.{Name, NameMap, brush, bitmap, region, table, with_name, without_name}
 use Rattle.script_read.specs.Regions.{named_region_in}
 use Rattle.script_read.specs.State.{ReaderState}
 
@@ -42,6 +42,10 @@ Meaning = Result (ScriptCommand × ReaderState) Refusal
 -- one more name fits
 abbrev pub has_room : ReaderState → Bool
 has_room s = nat_lt s.live most_names
+
+-- one more name in use
+abbrev pub with_kept : List ℕ → Name → ReaderState → ReaderState
+with_kept name what s = record s { names = with_name name what s.names; live = s.live + 1 }
 
 -- one more bitmap of a size fits
 abbrev pub has_room_for : ReaderState → Size → Bool
@@ -71,9 +75,7 @@ keep_bitmap s name o = do
   _ ← ask (has_room_for s o.size) PastLimit
   Ok (
     asked.Create o,
-    record s {
-      names = with_name name (bitmap (record { number = o.number; size = o.size; format = o.format })) s.names;
-      live = s.live + 1;
+    record (with_kept name (bitmap (record { number = o.number; size = o.size; format = o.format })) s) {
       bitmaps = s.bitmaps + 1;
       pixels = s.pixels + o.size.w * o.size.h;
       made = s.made ++ name ∷ [];
@@ -121,14 +123,10 @@ read_brush s words = do
   let name = word_at words 1
   _ ← new_name s.names name
   face ← face_in s.names words
-  _ ← ask (face.1 && has_room s && nat_lt s.brushes most_brushes) PastLimit
+  _ ← ask (face.fits && has_room s && nat_lt s.brushes most_brushes) PastLimit
   Ok (
-    asked.Brush (record { number = s.brushes; face = face.0; back = s.back }),
-    record s {
-      names = with_name name (brush s.brushes) s.names;
-      live = s.live + 1;
-      brushes = s.brushes + 1;
-    },
+    asked.Brush (record { number = s.brushes; face = face.face; back = s.back }),
+    record (with_kept name (brush s.brushes) s) { brushes = s.brushes + 1 },
   )
 
 -- brushorg X Y
@@ -236,11 +234,7 @@ keep_region s name rects = do
   _ ← ask (nat_le (length rects) most_rects) RegionTooLarge
   Ok (
     asked.Nothing,
-    record s {
-      names = with_name name (region rects) s.names;
-      live = s.live + 1;
-      rectangles = s.rectangles + length rects;
-    },
+    record (with_kept name (region rects) s) { rectangles = s.rectangles + length rects },
   )
 
 -- region NAME rects [R ...], region NAME OP A B, and region NAME offset A DX DY
@@ -262,7 +256,7 @@ read_table s words = do
   _ ← new_name s.names name
   colours ← each colour_in (drop 2 words)
   _ ← ask (has_room s && nat_lt s.tables most_tables) PastLimit
-  Ok (asked.Nothing, record s { names = with_name name (table colours) s.names; live = s.live + 1; tables = s.tables + 1 })
+  Ok (asked.Nothing, record (with_kept name (table colours) s) { tables = s.tables + 1 })
 
 -- a brush of a form has so many words; where the word is no form the number isn't asked
 abbrev pub brush_fits : List ℕ → ℕ → Bool

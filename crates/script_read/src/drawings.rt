@@ -15,7 +15,7 @@ use crate::reader::Reader;
 use brush_obj::{BltCall, CopyCall, DrawCall, PaintCall};
 use geom_base::{Point, Rect, Target};
 use rop_mix::{Mix, Rop4, needs_mask, needs_source};
-use script_names::{bitmap, bitmap_or_none, brush, brush_or_none, mix, spot, spot_or_none, values};
+use script_names::{bitmap_or_none, brush, brush_or_none, mix, spot, spot_or_none, values};
 use script_orders::{BrushUse, DeskCommand, Feed, ScriptCommand, Spot, Values};
 use script_words::{ReadError, Refusal, hexadecimal, point, rect, well_ordered, word};
 use std::alloc::Global;
@@ -155,7 +155,7 @@ pub fn pixels(
     requires { 4 ≤ length words.now }
     ensures value { ReadsLine result (state_of reader.now) (read_pixels (state_of reader.now) (map (λ w. w.now) words.now)) }
 {
-    let bitmap = bitmap(&reader.names, word(words, 1))?;
+    let bitmap = reader.names.bitmap(word(words, 1))?;
     let at = point(words, 2)?;
     let row = values(alloc, bitmap.format, words, 4)?;
     let clip = reader.shared_clip()?;

@@ -16,6 +16,7 @@ mod refusal;
 #[cfg(test)]
 mod refusal_tests;
 mod regions;
+mod standard_tables;
 #[cfg(test)]
 mod tests;
 mod verb;

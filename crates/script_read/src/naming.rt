@@ -6,19 +6,17 @@ ghost use Rattle.script_words.specs.Asking.{ReadsAs};
 ghost use Rattle.script_words.specs.Bounds.{most_name_bytes};
 ghost use Rattle.script_orders.specs.Limits.{most_bitmap_pixels, most_commands};
 ghost use Rattle.script_names.specs.Names.{names_of};
+ghost use Rattle.script_names.specs.Fields.{table_in};
 ghost use Rattle.script_read.specs.InnerReading.{ReadsLine, state_of};
 ghost use Rattle.script_read.specs.Commands.{has_room, has_room_for, create_in, keep_bitmap, read_bitmap, read_brush, read_delete, read_table};
 
 use crate::reader::Reader;
 use geom_base::{MOST_SIDE, Size};
-use pix_format::ColourTable;
-use script_names::{
-    Bitmap, Entry, Names, bitmap as known_bitmap, colours, face, format, new_name,
-    table as table_of,
-};
+use pix_format::{ColourTable, Format};
+use script_names::{Bitmap, Entry, colours, face, format, new_name};
 use script_orders::{
     BrushOrder, CreateOrder, MOST_BITMAP_PIXELS, MOST_BITMAPS, MOST_BRUSHES, MOST_NAMES,
-    MOST_PIXELS, MOST_TABLES, ScriptCommand,
+    MOST_PIXELS, MOST_TABLES, ScriptCommand, SharedTable,
 };
 use script_words::{ReadError, Refusal, count, word};
 use std::alloc::Global;
@@ -39,7 +37,6 @@ pub fn table<'a>(
 ) -> Result<ScriptCommand, ReadError>
     requires { 2 ≤ length words.now }
     ensures value { ReadsLine result (state_of reader.new) (read_table (state_of reader.old) (map (λ w. w.now) words.now)) }
-    ensures made { IfOk result (λ _. length reader.new.made.items ≤ length reader.old.made.items + 1) }
 {
     let name = word(words, 1);
     new_name(&reader.names, name)?;
@@ -47,9 +44,8 @@ pub fn table<'a>(
     if !(has_room(reader) && reader.tables < MOST_TABLES) {
         return Err(ReadError::Refused(Refusal::PastLimit));
     }
-    let table = ColourTable::of(alloc, &colours)?;
-    reader.names.insert(name, Entry::Table(table))?;
-    reader.live += 1;
+    let table = SharedTable::of(alloc, ColourTable::of(alloc, &colours)?)?;
+    reader.keep_name(name, Entry::Table(table))?;
     reader.tables += 1;
     Ok(ScriptCommand::Nothing)
 }
@@ -58,41 +54,47 @@ pub fn table<'a>(
 #[tactic(auto, unfolding(crate::specs::Commands::read_brush))]
 pub fn brush<'a>(reader: &mut Reader<'a>, words: &[&'a [u8]]) -> Result<ScriptCommand, ReadError>
     ensures value { ReadsLine result (state_of reader.new) (read_brush (state_of reader.old) (map (λ w. w.now) words.now)) }
-    ensures made { IfOk result (λ _. length reader.new.made.items ≤ length reader.old.made.items + 1) }
 {
     let name = word(words, 1);
     new_name(&reader.names, name)?;
-    let (face, fits) = face(&reader.names, words)?;
-    if !(fits && has_room(reader) && reader.brushes < MOST_BRUSHES) {
+    let asked = face(&reader.names, words)?;
+    if !(asked.fits && has_room(reader) && reader.brushes < MOST_BRUSHES) {
         return Err(ReadError::Refused(Refusal::PastLimit));
     }
     let number = reader.brushes;
-    reader.names.insert(name, Entry::Brush(number))?;
-    reader.live += 1;
+    reader.keep_name(name, Entry::Brush(number))?;
     reader.brushes += 1;
     Ok(ScriptCommand::Brush(BrushOrder {
         number,
-        face,
+        face: asked.face,
         back: reader.back,
     }))
 }
 
+/// The table that a sixth word names, or the format's own where there is none.
+fn table_of(reader: &Reader<'_>, words: &[&[u8]], format: Format) -> Result<SharedTable, ReadError>
+    ensures { ReadsAs (λ t. t) result
+        (table_in (names_of reader.now.names) (map (λ w. w.now) words.now) (length (map (λ w. w.now) words.now)) format) }
+{
+    let table = if words.len() == 6 {
+        reader.names.table(word(words, 5))?
+    } else {
+        reader.standard.of(format)
+    };
+    Ok(table.shared()?)
+}
+
 /// NAME W H FORMAT [TABLE] of a bitmap line.
 #[tactic(auto, unfolding(crate::specs::Commands::create_in))]
-fn create(
-    names: &Names<'_>,
-    alloc: Global,
-    number: u32,
-    words: &[&[u8]],
-) -> Result<CreateOrder, ReadError>
-    ensures value { ReadsAs (λ o. o) result (create_in (names_of names.now) number (map (λ w. w.now) words.now)) }
+fn create(reader: &Reader<'_>, number: u32, words: &[&[u8]]) -> Result<CreateOrder, ReadError>
+    ensures value { ReadsAs (λ o. o) result (create_in (names_of reader.now.names) number (map (λ w. w.now) words.now)) }
     ensures name { OnOk result (length (word_at (map (λ w. w.now) words.now) 1) ≤ most_name_bytes) }
 {
-    new_name(names, word(words, 1))?;
+    new_name(&reader.names, word(words, 1))?;
     let w = count(word(words, 2), 1, MOST_SIDE)?;
     let h = count(word(words, 3), 1, MOST_SIDE)?;
     let format = format(word(words, 4))?;
-    let table = table_of(alloc, names, words, format)?;
+    let table = table_of(reader, words, format)?;
     if table.colours().len() != format.colours() {
         return Err(ReadError::Refused(Refusal::TableMisfit));
     }
@@ -125,7 +127,6 @@ fn keep_bitmap<'a>(
 ) -> Result<ScriptCommand, ReadError>
     requires { length name.now ≤ most_name_bytes }
     ensures value { ReadsLine result (state_of reader.new) (keep_bitmap (state_of reader.old) name.now order) }
-    ensures made { IfOk result (λ _. length reader.new.made.items ≤ length reader.old.made.items + 1) }
 {
     if !has_room_for(reader, order.size) {
         return Err(ReadError::Refused(Refusal::PastLimit));
@@ -135,9 +136,8 @@ fn keep_bitmap<'a>(
         size: order.size,
         format: order.format,
     };
-    reader.names.insert(name, Entry::Bitmap(kept))?;
+    reader.keep_name(name, Entry::Bitmap(kept))?;
     reader.made.push(name)?;
-    reader.live += 1;
     reader.bitmaps += 1;
     reader.pixels += order.size.w * order.size.h;
     Ok(ScriptCommand::Create(order))
@@ -145,17 +145,12 @@ fn keep_bitmap<'a>(
 
 /// bitmap NAME W H FORMAT [TABLE]
 #[tactic(auto, unfolding(crate::specs::Commands::read_bitmap))]
-pub fn bitmap<'a>(
-    reader: &mut Reader<'a>,
-    alloc: Global,
-    words: &[&'a [u8]],
-) -> Result<ScriptCommand, ReadError>
+pub fn bitmap<'a>(reader: &mut Reader<'a>, words: &[&'a [u8]]) -> Result<ScriptCommand, ReadError>
     requires { length reader.old.made.items < most_commands }
     ensures value { ReadsLine result (state_of reader.new) (read_bitmap (state_of reader.old) (map (λ w. w.now) words.now)) }
-    ensures made { IfOk result (λ _. length reader.new.made.items ≤ length reader.old.made.items + 1) }
 {
     let number = reader.made.len() as u32;
-    let order = create(&reader.names, alloc, number, words)?;
+    let order = create(reader, number, words)?;
     keep_bitmap(reader, word(words, 1), order)
 }
 
@@ -163,10 +158,9 @@ pub fn bitmap<'a>(
 #[tactic(auto, unfolding(crate::specs::Commands::read_delete))]
 pub fn delete(reader: &mut Reader<'_>, words: &[&[u8]]) -> Result<ScriptCommand, ReadError>
     ensures value { ReadsLine result (state_of reader.new) (read_delete (state_of reader.old) (map (λ w. w.now) words.now)) }
-    ensures made { IfOk result (λ _. length reader.new.made.items ≤ length reader.old.made.items + 1) }
 {
     let name = word(words, 1);
-    let gone = known_bitmap(&reader.names, name)?;
+    let gone = reader.names.bitmap(name)?;
     reader.names.remove(name);
     reader.live = reader.live.saturating_sub(1);
     reader.bitmaps = reader.bitmaps.saturating_sub(1);

@@ -1,12 +1,13 @@
 //! Lines read one after the other.
 
-ghost use Rattle.std.specs.Prelude.{All, ◌≡◌, ◌<◌, ◌≤◌, ◌+◌, IfOk, IfSome, length, map};
+ghost use Rattle.std.specs.Prelude.{All, ◌≡◌, ◌<◌, ◌≤◌, IfOk, IfSome, OnOk, length, map};
 ghost use Rattle.script_words.specs.Bounds.{most_name_bytes};
 ghost use Rattle.script_orders.specs.Limits.{most_names, most_brushes, most_tables, most_bitmaps, most_bitmap_pixels, most_region_rects};
 
 use crate::drawings::{blt, copy, paint, pixels};
 use crate::naming::{bitmap, brush, delete, table};
 use crate::regions::region;
+use crate::standard_tables::StandardTables;
 use crate::verb::{Verb, fits_count, verb_of};
 use geom_base::Point;
 use pix_format::Rgb;
@@ -19,6 +20,7 @@ use std::alloc::{AllocError, Global};
 #[derive(Drop)]
 pub struct Reader<'a> {
     pub(crate) names: Names<'a>,
+    pub(crate) standard: StandardTables,
     /// How many names were made and are in use.
     pub(crate) live: u32,
     pub(crate) brushes: u32,
@@ -48,7 +50,8 @@ impl<'a> Reader<'a> {
     ghost use Rattle.script_read.specs.InnerReading.{ReadsLine, ReadsTextLine, state_of};
     ghost use Rattle.script_read.specs.State.{first_reader_state};
     ghost use Rattle.script_read.specs.Reading.{read_text_line};
-    ghost use Rattle.script_read.specs.Commands.{meaning_of, read_back, read_brushorg, read_clip, read_dump, read_line, read_sum};
+    ghost use Rattle.script_names.specs.Names.{name_of_entry};
+    ghost use Rattle.script_read.specs.Commands.{with_kept, meaning_of, read_back, read_brushorg, read_clip, read_dump, read_line, read_sum};
 
     /// What is known before the first line.
     pub fn new(alloc: Global) -> Result<Reader<'a>, AllocError>
@@ -59,6 +62,7 @@ impl<'a> Reader<'a> {
         names.insert(b"none".as_slice(), Entry::NoClip)?;
         Ok(Reader {
             names,
+            standard: StandardTables::new(alloc)?,
             live: 0,
             brushes: 0,
             tables: 0,
@@ -87,7 +91,6 @@ impl<'a> Reader<'a> {
         requires { length self.old.made.items ≤ commands }
         ensures value { ReadsTextLine result (state_of self.new) (read_text_line commands (state_of self.old) line.now) }
         ensures few { IfOk result (λ asked. IfSome asked (λ _. commands < most_commands)) }
-        ensures made { IfOk result (λ asked. length self.new.made.items ≤ length self.old.made.items + length (option_to_list asked)) }
     {
         if line.first() == Some(&b'#') {
             return Ok(None);
@@ -98,6 +101,16 @@ impl<'a> Reader<'a> {
         }
         let command = self.line(alloc, commands, &words)?;
         Ok(Some(command))
+    }
+
+    /// One more name in use.
+    pub(crate) fn keep_name(&mut self, name: &'a [u8], what: Entry) -> Result<(), AllocError>
+        requires { self.old.live < most_names }
+        ensures { OnOk result (state_of self.new ≡ with_kept name.now (name_of_entry what) (state_of self.old)) }
+    {
+        self.names.insert(name, what)?;
+        self.live += 1;
+        Ok(())
     }
 
     /// The clip in force, with one owner more.
@@ -114,7 +127,6 @@ impl<'a> Reader<'a> {
     #[tactic(auto, unfolding(crate::specs::Commands::read_back))]
     fn set_back(&mut self, words: &[&[u8]]) -> Result<ScriptCommand, ReadError>
         ensures value { ReadsLine result (state_of self.new) (read_back (state_of self.old) (map (λ w. w.now) words.now)) }
-        ensures made { IfOk result (λ _. length self.new.made.items ≤ length self.old.made.items + 1) }
     {
         self.back = colour(word(words, 1))?;
         Ok(ScriptCommand::Nothing)
@@ -124,7 +136,6 @@ impl<'a> Reader<'a> {
     #[tactic(auto, unfolding(crate::specs::Commands::read_brushorg))]
     fn set_origin(&mut self, words: &[&[u8]]) -> Result<ScriptCommand, ReadError>
         ensures value { ReadsLine result (state_of self.new) (read_brushorg (state_of self.old) (map (λ w. w.now) words.now)) }
-        ensures made { IfOk result (λ _. length self.new.made.items ≤ length self.old.made.items + 1) }
     {
         self.origin = point(words, 1)?;
         Ok(ScriptCommand::Nothing)
@@ -134,7 +145,6 @@ impl<'a> Reader<'a> {
     #[tactic(auto, unfolding(crate::specs::Commands::read_clip))]
     fn set_clip(&mut self, words: &[&[u8]]) -> Result<ScriptCommand, ReadError>
         ensures value { ReadsLine result (state_of self.new) (read_clip (state_of self.old) (map (λ w. w.now) words.now)) }
-        ensures made { IfOk result (λ _. length self.new.made.items ≤ length self.old.made.items + 1) }
     {
         self.clip = clip(&self.names, word(words, 1))?;
         Ok(ScriptCommand::Nothing)
@@ -169,7 +179,6 @@ impl<'a> Reader<'a> {
         requires { length self.old.made.items ≤ commands }
         ensures value { ReadsLine result (state_of self.new) (read_line commands (state_of self.old) (map (λ w. w.now) words.now)) }
         ensures few { IfOk result (λ _. commands < most_commands) }
-        ensures made { IfOk result (λ _. length self.new.made.items ≤ length self.old.made.items + 1) }
     {
         if commands >= MOST_COMMANDS {
             return Err(ReadError::Refused(Refusal::TooManyCommands));
@@ -193,11 +202,10 @@ impl<'a> Reader<'a> {
         requires form { verb ≡ Verb.Region → 3 ≤ length words.now }
         requires few { length self.old.made.items < most_commands }
         ensures value { ReadsLine result (state_of self.new) (meaning_of verb (state_of self.old) (map (λ w. w.now) words.now)) }
-        ensures made { IfOk result (λ _. length self.new.made.items ≤ length self.old.made.items + 1) }
     {
         match verb {
             Verb::Back => self.set_back(words),
-            Verb::Bitmap => bitmap(self, alloc, words),
+            Verb::Bitmap => bitmap(self, words),
             Verb::Blt => blt(self, words),
             Verb::Brush => brush(self, words),
             Verb::Brushorg => self.set_origin(words),

@@ -20,7 +20,7 @@ use crate::naming::has_room;
 use crate::reader::Reader;
 use geom_base::{Point, Rect};
 use region::{Operation, Region, RegionRefusal};
-use script_names::{Entry, Names, new_name, operation_named, rects, region as known_region};
+use script_names::{Entry, Names, new_name, operation_named, rects};
 use script_orders::{MOST_REGION_RECTS, NamedRegion, ScriptCommand};
 use script_words::{GREATEST_NUMBER, ReadError, Refusal, number, well_ordered, word};
 use std::alloc::Global;
@@ -54,8 +54,8 @@ fn operated(names: &Names<'_>, alloc: Global, by: Option<Operation>, words: &[&[
     let Some(by) = by else {
         return Err(ReadError::Refused(Refusal::Spelling));
     };
-    let a = known_region(names, word(words, 3))?;
-    let b = known_region(names, word(words, 4))?;
+    let a = names.region(word(words, 3))?;
+    let b = names.region(word(words, 4))?;
     Ok(a.region().combined(alloc, by, b.region()))
 }
 
@@ -88,7 +88,7 @@ fn can_shift(region: &Region, by: Point) -> bool
 fn shifted(names: &Names<'_>, alloc: Global, words: &[&[u8]]) -> Found
     ensures { FindsRegion result (shifted_in (names_of names.now) (map (λ w. w.now) words.now)) }
 {
-    let known = known_region(names, word(words, 3))?;
+    let known = names.region(word(words, 3))?;
     let by = shift(words)?;
     let region = known.region();
     if !can_shift(region, by) {
@@ -151,15 +151,13 @@ fn keep_region<'a>(
     requires within { Within region }
     requires few { length region ≤ most_rects }
     ensures value { ReadsLine result (state_of reader.new) (keep_region (state_of reader.old) name.now region) }
-    ensures made { IfOk result (λ _. length reader.new.made.items ≤ length reader.old.made.items + 1) }
 {
     let count = region.rects().len() as u32;
     if !has_room_for_rects(reader, u64::from(count)) {
         return Err(ReadError::Refused(Refusal::PastLimit));
     }
     let kept = NamedRegion::of(alloc, region)?;
-    reader.names.insert(name, Entry::Region(kept))?;
-    reader.live += 1;
+    reader.keep_name(name, Entry::Region(kept))?;
     reader.rectangles += count;
     Ok(ScriptCommand::Nothing)
 }
@@ -173,7 +171,6 @@ pub fn region<'a>(
 ) -> Result<ScriptCommand, ReadError>
     requires { 3 ≤ length words.now }
     ensures value { ReadsLine result (state_of reader.new) (read_region (state_of reader.old) (map (λ w. w.now) words.now)) }
-    ensures made { IfOk result (λ _. length reader.new.made.items ≤ length reader.old.made.items + 1) }
 {
     match named_region(&reader.names, alloc, words)? {
         Ok(region) => keep_region(reader, alloc, word(words, 1), region),

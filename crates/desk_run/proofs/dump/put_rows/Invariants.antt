@@ -1,4 +1,4 @@
-use Rattle.std.proofs.Common.{◌≡◌, ◌+◌, ◌*◌, false, length}
+use Rattle.std.proofs.Common.{false}
 use Rattle.desk_io.specs.Sinks.{Puts}
 use Rattle.desk_run.specs.Texts.{rows_text}
 use Rattle.desk_run.proofs.dump.put_rows.Given as goal

@@ -4,16 +4,16 @@ use Rattle.geom_base.specs.Points.{is_in_some}
 use Rattle.geom_base.specs.Step.{Change}
 use Rattle.surf_obj.specs.Surface.{changed}
 use Rattle.desk_span.specs.InnerBeside.{is_own}
-use Rattle.desk_span.proofs.DrawLemmas.{drawn_beside}
+use Rattle.desk_span.proofs.DrawLemmas.{drawn_beside, one_beside}
 use Rattle.desk_span.proofs.draw.draw_call.Goals as goal
 
 pub returns-clause-ok : goal.returns-clause-ok
 returns-clause-ok c =
     let t = c.args.target.now in
     let d = c.args.command.now in
-    on_ok_weaker c.draw.result (λ drew s beside. (rw (c.holding-call.ensures, c.is_own.ensures) at drew)
+    on_ok_weaker c.draw.result (λ drew s beside. let one = one_beside s d.target t _ beside.screen in (rw (c.holding-call.ensures, c.is_own.ensures) at drew)
     ∙ ap (λ (new : Change). changed new (λ p. is_in_some p c.args.clip.now.rects) t)
-    (drawn_beside s d t (record { source = c.source.result; mask = c.mask.result; brush = c.brush.result; back = d.back }) (is_own d.target d.source)
+    (drawn_beside s d t one.0 one.1 (record { source = c.source.result; mask = c.mask.result; brush = c.brush.result; back = d.back }) (is_own d.target d.source)
     (λ target. c.source.ensures s t target beside c.requires.source)
     (c.mask.ensures s d.target t beside c.requires.other) (c.brush.ensures s d.target t beside) refl d.call))
     c.draw.ensures.ok

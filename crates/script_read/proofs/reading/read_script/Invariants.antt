@@ -5,6 +5,7 @@ use Rattle.script_orders.specs.Limits.{most_commands}
 use Rattle.script_read.specs.InnerReading.{state_of}
 use Rattle.script_read.specs.State.{first_reader_state}
 use Rattle.script_read.specs.Reading.{read_lines}
+use Rattle.script_read.proofs.MeaningLemmas.{HasRead}
 use Rattle.script_read.proofs.ScriptLemmas.{ReadTo}
 use Rattle.script_read.proofs.reading.read_script.Given as goal
 
@@ -14,7 +15,7 @@ invariant-loop-more l = record {
       (length (lines_after (option_copied l.more))) l.commands.items
       (read_lines l.number (length l.commands.items) (state_of l.reader) (lines_after (option_copied l.more)));
   few : length l.commands.items ≤ most_commands;
-  made : length l.reader.made.items ≤ length l.commands.items;
+  made : HasRead (state_of l.reader) (length l.commands.items);
 }
 
 abbrev pub decreases-loop-more : goal.decreases-loop-more

@@ -6,6 +6,6 @@ pub returns-clause-appends : goal.returns-clause-appends
 returns-clause-appends c = record {
   bytes = λ w e. grind (arith, common_steps);
   some = (omega arith, grind (arith, common_steps));
-  cause = tt;
+  count = grind (arith, common_steps);
   later = grind (arith, common_steps);
 }

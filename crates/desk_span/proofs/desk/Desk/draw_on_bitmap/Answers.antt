@@ -1,18 +1,17 @@
-use Rattle.std.proofs.Common.{◌≡◌, ◌<◌, length, rules, Option, Some, None, set, get_or, refl, sym, ap, ◌∙◌}
+use Rattle.std.proofs.Common.{◌≡◌, Option, Some, None, set, get_or, refl, sym, ap, ◌∙◌}
 use Rattle.std.proofs.lemmas.List.{get_or_default}
 use Rattle.std.proofs.lemmas.Result.{on_ok_weaker, on_err_weaker}
 use Rattle.surf_obj.specs.Surface.{Surface}
-use Rattle.desk_span.proofs.DeskLemmas.{beside, desk_of, drawn_back, put_back}
+use Rattle.desk_span.proofs.DeskLemmas.{beside, desk_of, drawn_back, undrawn_back}
 use Rattle.script_orders.specs.Live.{Any}
 use Rattle.desk_span.specs.Desk.{State}
-use Rattle.desk_span.specs.InnerBeside.{faces_of}
 use Rattle.desk_span.proofs.LiveLemmas.{within}
 use Rattle.desk_span.proofs.desk.Desk.draw_on_bitmap.Goals as goal
 
 pub returns-clause-ok : goal.returns-clause-ok
 returns-clause-ok c =
     let d = c.self.inside in
-    let s : State = record { screen = d.screen; bitmaps = d.bitmaps.items; brushes = faces_of d.brushes.items } in
+    let s : State = desk_of d.screen d.bitmaps.items d.brushes.items d.bitmaps.items in
     let t = c.in-Some.target in
     let here : get_or d.bitmaps.items c.args.number None ≡
     Some t = get_or_default d.bitmaps.items c.args.number None _
@@ -21,31 +20,36 @@ returns-clause-ok c =
     let gone = c.as_slice.ensures.value ∙ ap (λ (x : Option Surface). set d.bitmaps.items c.args.number x) c.take.ensures.after in
     rw (c.requires.target, c.take.ensures.after, ← c.self.view_is) (on_ok_weaker c.draw_beside-drawn.result
     (λ drew. drawn_back d.screen d.bitmaps.items d.brushes.items c.args.number t here c.args.command.now c.draw_beside-drawn.new.target
-    (drew (desk_of d.screen d.bitmaps.items d.brushes.items c.args.number t here d.bitmaps.items)
+    (drew s
     (rw c.requires.target (beside d.screen d.bitmaps.items d.brushes.items c.args.number t here _ refl gone c.as_slice-2.ensures.value))))
     c.draw_beside-drawn.ensures.ok)
 
 pub returns-clause-err : goal.returns-clause-err
 returns-clause-err c =
     let d = c.self.inside in
-    let s : State = record { screen = d.screen; bitmaps = d.bitmaps.items; brushes = faces_of d.brushes.items } in
+    let s : State = desk_of d.screen d.bitmaps.items d.brushes.items d.bitmaps.items in
     let t = c.in-Some.target in
     let here : get_or d.bitmaps.items c.args.number None ≡
     Some t = get_or_default d.bitmaps.items c.args.number None _
     (within s c.args.number Any (rw (c.requires.target, ← c.self.view_is) at c.requires.can.target))
     ∙ sym c.index_mut.ensures.value ∙ sym c.take.ensures.value ∙ c.in-Some.is in
-    rw (c.take.ensures.after, ← c.self.view_is) (on_err_weaker c.draw_beside-drawn.result
-    (λ same. rw same (put_back d.screen d.bitmaps.items d.brushes.items c.args.number t here))
+    rw c.take.ensures.after (on_err_weaker c.draw_beside-drawn.result
+    (λ same. undrawn_back d.screen d.bitmaps.items d.brushes.items c.args.number t here c.args.self.now c.self.view_is c.args.command.now _ same)
     c.draw_beside-drawn.ensures.err)
 
 pub returns-clause-meets : goal.returns-clause-meets
 returns-clause-meets c =
     let d = c.self.inside in
-    let s : State = record { screen = d.screen; bitmaps = d.bitmaps.items; brushes = faces_of d.brushes.items } in
+    let s : State = desk_of d.screen d.bitmaps.items d.brushes.items d.bitmaps.items in
     let t = c.in-Some.target in
     let here : get_or d.bitmaps.items c.args.number None ≡
     Some t = get_or_default d.bitmaps.items c.args.number None _
     (within s c.args.number Any (rw (c.requires.target, ← c.self.view_is) at c.requires.can.target))
     ∙ sym c.index_mut.ensures.value ∙ sym c.take.ensures.value ∙ c.in-Some.is in
-    on_err_weaker c.draw_beside-drawn.result (λ reached. record { surface = t; there = rw (c.requires.target, ← c.self.view_is) here; reached = reached })
+    on_err_weaker c.draw_beside-drawn.result (λ reached. rw (c.requires.target, ← c.self.view_is) (record {
+      target = refl;
+      surface = t;
+      there = here;
+      reached = reached;
+    }))
     c.draw_beside-drawn.ensures.meets

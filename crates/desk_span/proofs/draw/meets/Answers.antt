@@ -1,5 +1,5 @@
 use Rattle.desk_span.proofs.FrameLemmas.{met_alone}
-use Rattle.desk_span.proofs.frame.meets.Goals as goal
+use Rattle.desk_span.proofs.draw.meets.Goals as goal
 
 pub returns-in-None : goal.returns-in-None
 returns-in-None c =

@@ -1,0 +1,52 @@
+-- The reports that a drawing may have.
+use Rattle.std.specs.Prelude.{◌≡◌, Bool, false, nat_lt, IsTrue, All, List, [], ◌∷◌}
+use Rattle.geom_base.specs.declared.point.Point.{Point}
+use Rattle.geom_base.specs.declared.rect.Rect.{Rect}
+use Rattle.geom_base.specs.declared.size.Size.{Size}
+use Rattle.geom_base.specs.Points.{HasPoints, LiesIn, is_in}
+use Rattle.brush_obj.specs.Calls.{reach_of_call}
+use Rattle.script_orders.specs.declared.desk_command.DeskCommand.{DeskCommand}
+use Rattle.script_orders.specs.declared.named.Named.{Named}
+use Rattle.script_orders.specs.declared.named.Named.TheVariants.{Screen}
+use Rattle.desk_span.specs.declared.reports.Cause.TheVariants.{Memory}
+use Rattle.desk_span.specs.declared.reports.DeskOutcome.{DeskOutcome}
+use Rattle.desk_span.specs.declared.reports.DeskOutcome.TheVariants as outcomes
+use Rattle.desk_span.specs.Desk.{State, asked_point}
+use Rattle.desk_span.specs.Meeting.{Meets}
+use Rattle.desk_span.specs.Reports.{Told}
+
+-- one screen comes before another
+abbrev pub comes_before : Named → Named → Bool
+comes_before (Screen m) (Screen n) = nat_lt m n
+comes_before p q = false
+
+-- the targets come in the order of the screens, and none comes twice
+abbrev pub AreInOrder : List Told → Type 0
+AreInOrder [] = Unit {0}
+AreInOrder (t ∷ told) = All (λ (u : Told). IsTrue (comes_before t.target u.target)) told × AreInOrder told
+
+-- a rectangle that was done has points, and lies in the target and in what the call reaches there
+pub record IsPart (s : State) (c : DeskCommand) (q : Named) (size : Size) (r : Rect) : Type 0 where
+  pub some : HasPoints r
+  pub inside : LiesIn r size
+  pub reached : (p : Point) → IsTrue (is_in p r) → IsTrue (reach_of_call c.call (asked_point s q p))
+
+-- memory was wanting, and nothing was drawn
+abbrev pub IsWanting : Told → Type 0
+IsWanting t = (t.cause ≡ Memory) × (t.rects ≡ [])
+
+-- a report is on a target that the drawing meets, and names parts of it; its cause is want of memory
+pub record IsReport (s : State) (c : DeskCommand) (t : Told) : Type 0 where
+  pub meets : Meets s c t.target
+  pub parts : All (IsPart s c t.target meets.surface.size) t.rects
+  pub wanting : IsWanting t
+
+-- the reports of a drawing
+pub record AreReports (s : State) (c : DeskCommand) (told : List Told) : Type 0 where
+  pub order : AreInOrder told
+  pub each : All (IsReport s c) told
+
+-- a drawing was done whole where there is no report
+abbrev pub TellsAs : DeskOutcome → List Told → Type 0
+TellsAs outcomes.All told = told ≡ []
+TellsAs outcomes.Parted told = (t : Told) × (rest : List Told) × (told ≡ t ∷ rest)
