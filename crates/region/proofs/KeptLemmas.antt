@@ -12,7 +12,7 @@ use Rattle.region.specs.Band.{Bands, row_rects, rects_of}
 use Rattle.region.specs.Spans.{rects_of_spans}
 use Rattle.region.specs.Region.{IsRegionOf}
 use Rattle.region.specs.InnerSpanList.{span_steps}
-use Rattle.region.specs.InnerBandList.{ended_at, run_count, IsKept, IsCounted, IsBuilt}
+use Rattle.region.specs.InnerBandList.{ended_at, run_count, rect_count, IsKept, IsCounted, IsBuilt}
 use Rattle.region.specs.InnerSpanList.{span_of}
 use Rattle.region.proofs.StepLemmas.{final_is_valid, final_value-push, IsOrdered-push, AllFit-push, AllValid-push}
 use Rattle.region.proofs.CountLemmas.{rects_are_counted, rect_count-push, count_fits}
@@ -109,47 +109,58 @@ kept_none list count ended items = record {
   all = λ few to columns. sym (ap (λ n. take n list.rects.items ++ []) ended ∙ ap (λ l. take 0 l ++ []) items);
 }
 
--- a band more
-pub kept_more : (old new : BandList) (bands : Bands) (place : ℤ) (spans : List Span) (rects : List Rect) → IsKept old bands →
-    new.count ≡ old.count + length spans → new.most ≡ old.most → new.rects.items ≡ rects ++ rects_of_spans place place spans → new.ended ≡ length rects →
-    (new.count ≤ old.most → rects ≡ take old.ended old.rects.items ++ map (ended_at place) (drop old.ended old.rects.items)) →
-    IsKept new (bands ++ record { from = place; value = span_steps spans } ∷ [])
-kept_more old new bands place spans rects k count most items ended few =
-    let b : Step Columns = record { from = place; value = span_steps spans } in
+-- a band with these spans was begun at a row, after these rectangles: those of the bands before it, where they are not too many
+pub record HasBegun (old new : BandList) (place : ℤ) (spans : List Span) (before : List Rect) : Type 0 where
+  pub count : new.count ≡ old.count + length spans
+  pub most : new.most ≡ old.most
+  pub items : new.rects.items ≡ before ++ rects_of_spans place place spans
+  pub ended : new.ended ≡ length before
+  pub few : new.count ≤ old.most → before ≡ take old.ended old.rects.items ++ map (ended_at place) (drop old.ended old.rects.items)
+
+within_more : (old new : BandList) (place : ℤ) (spans : List Span) (before : List Rect) → HasBegun old new place spans before →
+    new.ended ≤ length new.rects.items
+within_more old new place spans before b = subst (λ n. n ≤ length new.rects.items) (sym b.ended) (subst (λ l. length before ≤ length l) (sym b.items)
+    (let n = length-append before (rects_of_spans place place spans) in omega (arith, n)))
+
+number_more : (old new : BandList) (bands : Bands) (place : ℤ) (spans : List Span) (before : List Rect) → HasBegun old new place spans before →
+    old.count ≡ rect_count bands → new.count ≡ rect_count (bands ++ record { from = place; value = span_steps spans } ∷ [])
+number_more old new bands place spans before b number =
+    let m = rect_count-push bands (record { from = place; value = span_steps spans }) in
+    let l = spans_are_counted spans in
+    omega (arith, m, l, b.count, number)
+
+pub kept_more : (old new : BandList) (bands : Bands) (place : ℤ) (spans : List Span) (before : List Rect) → HasBegun old new place spans before →
+    IsKept old bands → IsKept new (bands ++ record { from = place; value = span_steps spans } ∷ [])
+kept_more old new bands place spans before b k =
+    let step : Step Columns = record { from = place; value = span_steps spans } in
     record {
       row = spans;
       from = place;
-      number = let m = rect_count-push bands b in let l = spans_are_counted spans in omega (arith, m, l, count, k.number);
-      within = subst (λ n. n ≤ length new.rects.items) (sym ended) (subst (λ l. length rects ≤ length l) (sym items)
-          (let n = length-append rects (rects_of_spans place place spans) in omega (arith, n)));
-      value = final_value-push [] bands b;
-      last = ap (λ n. drop n new.rects.items) ended ∙ ap (drop (length rects)) items ∙ drop_all rects (rects_of_spans place place spans);
-      all = λ few_now to columns.
-          let within_most : new.count ≤ old.most = subst (λ n. new.count ≤ n) most few_now in
-          let whole : rects ≡ rects_of (λ c. c) (bands ++ b ∷ []) =
-          few within_most
+      number = number_more old new bands place spans before b k.number;
+      within = within_more old new place spans before b;
+      value = final_value-push [] bands step;
+      last = ap (λ n. drop n new.rects.items) b.ended ∙ ap (drop (length before)) b.items ∙ drop_all before (rects_of_spans place place spans);
+      all = λ few to columns.
+          let few_then : new.count ≤ old.most = subst (λ n. new.count ≤ n) b.most few in
+          let whole : before ≡ rects_of (λ c. c) (bands ++ step ∷ []) =
+          b.few few_then
           ∙ ap (λ l. take old.ended old.rects.items ++ map (ended_at place) l) k.last
           ∙ ap (λ l. take old.ended old.rects.items ++ l) (ended_spans k.from k.from place k.row)
-          ∙ sym (k.all (omega (arith, count, within_most)) place (span_steps spans)) in
-          one_more bands b (record { from = to; value = columns })
-          ∙ ap (λ u. rects_of (λ c. c) (bands ++ b ∷ []) ++ u) (spans_are_listed place to spans)
-          ∙ ap (λ u. u ++ rects_of_spans place to spans) (sym whole ∙ sym (take_all rects (rects_of_spans place place spans))
-          ∙ ap (take (length rects)) (sym items) ∙ ap (λ n. take n new.rects.items) (sym ended));
+          ∙ sym (k.all (omega (arith, b.count, few_then)) place (span_steps spans)) in
+          one_more bands step (record { from = to; value = columns })
+          ∙ ap (λ u. rects_of (λ c. c) (bands ++ step ∷ []) ++ u) (spans_are_listed place to spans)
+          ∙ ap (λ u. u ++ rects_of_spans place to spans) (sym whole ∙ sym (take_all before (rects_of_spans place place spans))
+          ∙ ap (take (length before)) (sym b.items) ∙ ap (λ n. take n new.rects.items) (sym b.ended));
     }
 
-pub counted_more : (old new : BandList) (bands : Bands) (place : ℤ) (spans : List Span) (rects : List Rect) → IsCounted old bands →
-    new.count ≡ old.count + length spans → new.most ≡ old.most → new.rects.items ≡ rects ++ rects_of_spans place place spans → new.ended ≡ length rects →
-    (new.count ≤ old.most → rects ≡ take old.ended old.rects.items ++ map (ended_at place) (drop old.ended old.rects.items)) →
-    IsCounted new (bands ++ record { from = place; value = span_steps spans } ∷ [])
-counted_more old new bands place spans rects k count most items ended few =
-    let b : Step Columns = record { from = place; value = span_steps spans } in
-    record {
-      number = let m = rect_count-push bands b in let l = spans_are_counted spans in omega (arith, m, l, count, k.number);
-      within = subst (λ n. n ≤ length new.rects.items) (sym ended) (subst (λ l. length rects ≤ length l) (sym items)
-          (let n = length-append rects (rects_of_spans place place spans) in omega (arith, n)));
-      few = λ few_now. kept_more old new bands place spans rects (k.few (let m : new.count ≤ old.most = subst (λ n. new.count ≤ n) most few_now in
-          omega (arith, count, m))) count most items ended few;
-    }
+pub counted_more : (old new : BandList) (bands : Bands) (place : ℤ) (spans : List Span) (before : List Rect) → HasBegun old new place spans before →
+    IsCounted old bands → IsCounted new (bands ++ record { from = place; value = span_steps spans } ∷ [])
+counted_more old new bands place spans before b k = record {
+  number = number_more old new bands place spans before b k.number;
+  within = within_more old new place spans before b;
+  few = λ few. kept_more old new bands place spans before b
+      (k.few (let m : new.count ≤ old.most = subst (λ n. new.count ≤ n) b.most few in omega (arith, b.count, m)));
+}
 
 -- a number of 64 bits has room for a band more
 pub counted_room : (list : BandList) (bands : Bands) (place : ℤ) (spans : List Span) → IsCounted list bands → CanTake IsColumns place bands →

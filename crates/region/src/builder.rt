@@ -12,15 +12,17 @@ ghost use Rattle.region.specs.Builder.{first_row, AreRows, HasRows};
 use crate::band_list::{BandList, MOST_RECTS};
 use crate::refusal::RegionRefusal;
 use crate::region::{Region, region_of_list};
-use crate::span::{Span, joined_spans};
+use crate::span::{Span, join_spans};
+use crate::span_list::SpanList;
 use std::alloc::{AllocError, Global};
 
 /// A region that is built row by row, from top to bottom.
 #[derive(Drop)]
 pub struct RegionBuilder {
-    alloc: Global,
     list: BandList,
     bottom: i32,
+    /// Room for the spans of a row.
+    row: SpanList,
 }
 
 impl RegionBuilder {
@@ -29,9 +31,9 @@ impl RegionBuilder {
         ensures { HasRows [] first_row result }
     {
         RegionBuilder {
-            alloc,
             list: BandList::new(alloc, MOST_RECTS),
             bottom: i32::MIN,
+            row: SpanList::new(alloc),
         }
     }
 
@@ -47,9 +49,9 @@ impl RegionBuilder {
         if spans.is_empty() {
             return Ok(());
         }
-        let row = joined_spans(self.alloc, spans)?;
         self.end_before(&top)?;
-        self.list.put_row(top, row.spans())?;
+        join_spans(&mut self.row, spans)?;
+        self.list.put_row(top, self.row.spans())?;
         self.bottom = bottom;
         Ok(())
     }

@@ -1,13 +1,13 @@
 //! The spans of a row.
 
-ghost use Rattle.std.specs.Prelude.{◌≡◌, ℤ, IfOk};
+ghost use Rattle.std.specs.Prelude.{◌≡◌, ℤ, OnOk};
 ghost use Rattle.region.specs.Columns.{has_column};
 ghost use Rattle.region.specs.InnerColumns.{IsColumns};
 ghost use Rattle.region.specs.Spans.{in_spans, AreSpans};
 ghost use Rattle.region.specs.InnerSpanList.{span_steps};
 
 use crate::span_list::SpanList;
-use std::alloc::{AllocError, Global};
+use std::alloc::AllocError;
 
 /// Columns of a row, from the left one to before the right one.
 #[derive(Clone, Copy, Debug, PartialEq, Eq)]
@@ -16,13 +16,13 @@ pub struct Span {
     pub right: i32,
 }
 
-/// Spans that do not touch, with the same columns.
-pub fn joined_spans(alloc: Global, spans: &[Span]) -> Result<SpanList, AllocError>
+/// Puts spans that do not touch in the place of those of a row, with the same columns as these.
+pub fn join_spans(row: &mut SpanList, spans: &[Span]) -> Result<(), AllocError>
     requires { AreSpans spans.now }
-    ensures columns { IfOk result (λ r. IsColumns (span_steps r.spans.items)) }
-    ensures points { IfOk result (λ r. (x : ℤ) → has_column (span_steps r.spans.items) x ≡ in_spans x spans.now) }
+    ensures columns { OnOk result (IsColumns (span_steps row.new.spans.items)) }
+    ensures points { OnOk result ((x : ℤ) → has_column (span_steps row.new.spans.items) x ≡ in_spans x spans.now) }
 {
-    let mut row = SpanList::new(alloc);
+    row.clear();
     let mut end = i32::MIN;
     for span in spans {
         if end < span.left {
@@ -31,6 +31,5 @@ pub fn joined_spans(alloc: Global, spans: &[Span]) -> Result<SpanList, AllocErro
         row.turn(span.left, true)?;
         end = span.right;
     }
-    row.turn(end, false)?;
-    Ok(row)
+    row.turn(end, false)
 }

@@ -5,7 +5,7 @@ use Rattle.geom_base.specs.declared.rect.Rect.{Rect}
 use Rattle.region.specs.declared.span.Span.{Span}
 use Rattle.region.specs.Spans.{rects_of_spans}
 use Rattle.region.specs.InnerBandList.{ended_at}
-use Rattle.region.proofs.KeptLemmas.{begun_ended, counted_more, counted_room, kept_more, rects_next}
+use Rattle.region.proofs.KeptLemmas.{begun_ended, HasBegun, counted_more, counted_room, kept_more, rects_next}
 use Rattle.region.proofs.band_list.BandList.begin.Goals as goal
 
 pub add-requires : goal.add-requires
@@ -36,34 +36,27 @@ loop-span-preserved c =
       c.loop-span.invariant.3,
     )
 
-pub returns-clause-counted : goal.returns-clause-counted
-returns-clause-counted c =
+-- what the body did
+begun : (c : goal.After-loop-span) → HasBegun c.args.self.now c.loop-span.self c.args.place c.args.spans.now c.add.new.self.rects.items
+begun c =
     let place : to_z w32 (of_z w32 c.args.place) ≡ c.args.place = search (rules, to_z-of_z) in
     let old = c.args.self.now in
     let added = c.add.new.self.rects.items in
     let count = c.loop-span.invariant.2 ∙ c.add.ensures.count ∙ ap (λ n. n + length c.args.spans.now) c.end.ensures.count in
-    let ends = ap (λ z. take old.ended old.rects.items ++ map (ended_at z) (drop old.ended old.rects.items)) place in
-    λ bands k take_it. counted_more old c.loop-span.self bands c.args.place c.args.spans.now added k count
-    (c.loop-span.invariant.3 ∙ c.add.ensures.most ∙ c.end.ensures.most)
-    (c.loop-span.invariant.0 ∙ ap (λ z. added ++ rects_of_spans z z (take c.loop-span.span-index c.args.spans.now)) place
-    ∙ ap (λ l. added ++ rects_of_spans c.args.place c.args.place l) (take_all c.loop-span.span-index c.args.spans.now (omega arith)))
-    (c.loop-span.invariant.1 ∙ begun_ended old c.end.new.self c.add.new.self _ (length c.args.spans.now) k.within c.end.ensures.rects
-    c.end.ensures.ended c.add.ensures.few c.add.ensures.many)
-    (λ few. (c.add.ensures.few (subst (λ n. c.end.new.self.count + length c.args.spans.now ≤ n) (sym c.end.ensures.most)
-    (omega (arith, count, few, c.end.ensures.count)))).0 ∙ c.end.ensures.rects ∙ ends)
+    record {
+      count = count;
+      most = c.loop-span.invariant.3 ∙ c.add.ensures.most ∙ c.end.ensures.most;
+      items = c.loop-span.invariant.0 ∙ ap (λ z. added ++ rects_of_spans z z (take c.loop-span.span-index c.args.spans.now)) place
+          ∙ ap (λ l. added ++ rects_of_spans c.args.place c.args.place l) (take_all c.loop-span.span-index c.args.spans.now (omega arith));
+      ended = c.loop-span.invariant.1 ∙ begun_ended old c.end.new.self c.add.new.self _ (length c.args.spans.now) c.requires.bands.1.within
+          c.end.ensures.rects c.end.ensures.ended c.add.ensures.few c.add.ensures.many;
+      few = λ few. (c.add.ensures.few (subst (λ n. c.end.new.self.count + length c.args.spans.now ≤ n) (sym c.end.ensures.most)
+          (omega (arith, count, few, c.end.ensures.count)))).0 ∙ c.end.ensures.rects
+          ∙ ap (λ z. take old.ended old.rects.items ++ map (ended_at z) (drop old.ended old.rects.items)) place;
+    }
+
+pub returns-clause-counted : goal.returns-clause-counted
+returns-clause-counted c = λ bands k taken. counted_more c.args.self.now c.loop-span.self bands c.args.place c.args.spans.now c.add.new.self.rects.items (begun c) k
 
 pub returns-clause-kept : goal.returns-clause-kept
-returns-clause-kept c =
-    let place : to_z w32 (of_z w32 c.args.place) ≡ c.args.place = search (rules, to_z-of_z) in
-    let old = c.args.self.now in
-    let added = c.add.new.self.rects.items in
-    let count = c.loop-span.invariant.2 ∙ c.add.ensures.count ∙ ap (λ n. n + length c.args.spans.now) c.end.ensures.count in
-    let ends = ap (λ z. take old.ended old.rects.items ++ map (ended_at z) (drop old.ended old.rects.items)) place in
-    λ bands k take_it. kept_more old c.loop-span.self bands c.args.place c.args.spans.now added k count
-    (c.loop-span.invariant.3 ∙ c.add.ensures.most ∙ c.end.ensures.most)
-    (c.loop-span.invariant.0 ∙ ap (λ z. added ++ rects_of_spans z z (take c.loop-span.span-index c.args.spans.now)) place
-    ∙ ap (λ l. added ++ rects_of_spans c.args.place c.args.place l) (take_all c.loop-span.span-index c.args.spans.now (omega arith)))
-    (c.loop-span.invariant.1 ∙ begun_ended old c.end.new.self c.add.new.self _ (length c.args.spans.now) k.within c.end.ensures.rects
-    c.end.ensures.ended c.add.ensures.few c.add.ensures.many)
-    (λ few. (c.add.ensures.few (subst (λ n. c.end.new.self.count + length c.args.spans.now ≤ n) (sym c.end.ensures.most)
-    (omega (arith, count, few, c.end.ensures.count)))).0 ∙ c.end.ensures.rects ∙ ends)
+returns-clause-kept c = λ bands k taken. kept_more c.args.self.now c.loop-span.self bands c.args.place c.args.spans.now c.add.new.self.rects.items (begun c) k

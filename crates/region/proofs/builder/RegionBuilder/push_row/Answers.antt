@@ -21,7 +21,7 @@ returns c = λ pushed end h above.
     let top_fits : SFits w32 top = search rules in
     let bottom_fits : SFits w32 bottom = search rules in
     let rows = (rw (to_z-of_z w32 top top_fits) at c.in_ok-end_before.ensures) pushed (rows_above pushed end top c.args.self.now h above) in
-    let points = subst (λ row. (x : ℤ) → has_column (span_steps row) x ≡ in_spans x c.args.spans.now) (sym c.spans.ensures) c.in_ok-row.ensures.points in
+    let points = subst (λ row. (x : ℤ) → has_column (span_steps row) x ≡ in_spans x c.args.spans.now) (sym c.spans.ensures) c.in_ok-join_spans.ensures.points in
     rw (to_z-of_z w32 bottom bottom_fits) (record {
       rows = rows_more pushed top bottom c.spans.result.now c.args.spans.now c.end_before.new.self.list c.put_row.new.self rows c.requires.rows top_fits
           points (rw (to_z-of_z w32 top top_fits) at c.in_ok-put_row.ensures.put) c.in_ok-put_row.ensures.most;

@@ -9,8 +9,9 @@ use Rattle.region.specs.InnerSpanList.{steps_of}
 use Rattle.region.proofs.RunLemmas.{runs_until}
 use Rattle.region.proofs.SpanLemmas.{span_is_later, span_runs_more, span_columns, span_points, span_begins, span_ends}
 use Rattle.region.proofs.SpanListLemmas.{all_ended}
-use Rattle.region.proofs.span.joined_spans.Goals.{then-end-span+in_ok-turn, else-end-span}
-use Rattle.region.proofs.span.joined_spans.Goals as goal
+use Rattle.region.proofs.UniqueLemmas.{on_ok_both}
+use Rattle.region.proofs.span.join_spans.Goals.{then-end-span+in_ok-turn, else-end-span}
+use Rattle.region.proofs.span.join_spans.Goals as goal
 
 pub loop-span-preserved : goal.loop-span-preserved
 loop-span-preserved c =
@@ -46,14 +47,17 @@ returns-clause-columns c =
     let end = to_z w32 c.loop-span.end-bits in
     let fits : SFits w32 end = search rules in
     let set : ℤ → ℤ → Bool = λ y x. in_spans y (take c.loop-span.span-index c.args.spans.now) in
-    let ended = span_ends set end c.loop-span.row c.turn-2.new.self c.loop-span.invariant.runs fits c.in_ok-turn-3.ensures.steps in
-    subst IsColumns (all_ended c.turn-2.new.self c.in_ok-turn-3.ensures.inside) (span_columns set end (steps_of c.turn-2.new.self) ended)
+    let new = c.turn-2.new.self in
+    on_ok_both _ _ _ c.turn-2.result (λ steps inside. subst IsColumns (all_ended new inside)
+    (span_columns set end (steps_of new) (span_ends set end c.loop-span.row new c.loop-span.invariant.runs fits steps)))
+    c.turn-2.ensures.steps c.turn-2.ensures.inside
 
 pub returns-clause-points : goal.returns-clause-points
-returns-clause-points c = λ x.
+returns-clause-points c =
     let end = to_z w32 c.loop-span.end-bits in
     let fits : SFits w32 end = search rules in
     let set : ℤ → ℤ → Bool = λ y x. in_spans y (take c.loop-span.span-index c.args.spans.now) in
-    let ended = span_ends set end c.loop-span.row c.turn-2.new.self c.loop-span.invariant.runs fits c.in_ok-turn-3.ensures.steps in
-    ap (λ l. has_column l x) (sym (all_ended c.turn-2.new.self c.in_ok-turn-3.ensures.inside)) ∙ span_points set end (steps_of c.turn-2.new.self) ended x
-    ∙ ap (in_spans x) (take_all c.loop-span.span-index c.args.spans.now c.loop-span-test.false)
+    let new = c.turn-2.new.self in
+    on_ok_both _ _ _ c.turn-2.result (λ steps inside x. ap (λ l. has_column l x) (sym (all_ended new inside))
+    ∙ span_points set end (steps_of new) (span_ends set end c.loop-span.row new c.loop-span.invariant.runs fits steps) x
+    ∙ ap (in_spans x) (take_all c.loop-span.span-index c.args.spans.now c.loop-span-test.false)) c.turn-2.ensures.steps c.turn-2.ensures.inside
