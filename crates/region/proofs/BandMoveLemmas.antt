@@ -75,10 +75,10 @@ row_moved by top bottom (s ∷ t ∷ steps) =
     ∙ ap (λ u. map (λ r. moved_rect r by) (span_rects top bottom s t) ++ u) (row_moved by top bottom (t ∷ steps))
     ∙ sym (map-append (λ r. moved_rect r by) (span_rects top bottom s t) (row_rects top bottom (t ∷ steps)))
 
-pub rects_moved : (by : Point) (bands : Bands) → rects_of (λ c. c) (moved_bands by bands) ≡ map (λ r. moved_rect r by) (rects_of (λ c. c) bands)
+pub rects_moved : (by : Point) (bands : Bands) → rects_of (moved_bands by bands) ≡ map (λ r. moved_rect r by) (rects_of bands)
 rects_moved by [] = refl
 rects_moved by (b ∷ []) = refl
 rects_moved by (b ∷ c ∷ bands) =
-    ap (λ u. u ++ rects_of (λ c. c) (moved_bands by (c ∷ bands))) (row_moved by b.from c.from b.value)
+    ap (λ u. u ++ rects_of (moved_bands by (c ∷ bands))) (row_moved by b.from c.from b.value)
     ∙ ap (λ u. map (λ r. moved_rect r by) (row_rects b.from c.from b.value) ++ u) (rects_moved by (c ∷ bands))
-    ∙ sym (map-append (λ r. moved_rect r by) (row_rects b.from c.from b.value) (rects_of (λ c. c) (c ∷ bands)))
+    ∙ sym (map-append (λ r. moved_rect r by) (row_rects b.from c.from b.value) (rects_of (c ∷ bands)))

@@ -214,15 +214,15 @@ row_within top bottom (s ∷ t ∷ steps) y z h =
     All-append HasEdges (span_rects top bottom s t) (row_rects top bottom (t ∷ steps)) (span_within top bottom s t s.value refl y z h.0 h.1.0)
     (row_within top bottom (t ∷ steps) y z h.1)
 
-bands_within : (bands : Bands) → AllPlaces IsEdge bands → AllValid (AllPlaces IsEdge) bands → Within (rects_of (λ columns. columns) bands)
+bands_within : (bands : Bands) → AllPlaces IsEdge bands → AllValid (AllPlaces IsEdge) bands → Within (rects_of bands)
 bands_within [] h k = All-nil HasEdges
 bands_within (b ∷ []) h k = All-nil HasEdges
 bands_within (b ∷ c ∷ bands) h k =
-    All-append HasEdges (row_rects b.from c.from b.value) (rects_of (λ columns. columns) (c ∷ bands)) (row_within b.from c.from b.value h.0 h.1.0 k.0)
+    All-append HasEdges (row_rects b.from c.from b.value) (rects_of (c ∷ bands)) (row_within b.from c.from b.value h.0 h.1.0 k.0)
     (bands_within (c ∷ bands) h.1 k.1)
 
 -- all edges of the rectangles are coordinates of edges
-pub bands_lie_within : (set : Point → Bool) → Within (rects_of (λ columns. columns) (bands_of_set set))
+pub bands_lie_within : (set : Point → Bool) → Within (rects_of (bands_of_set set))
 bands_lie_within set =
     let columns : (y : ℤ) → AllPlaces IsEdge (columns_of_row set y) = λ y. steps_at_edges (column_changes set y) (row set y) in
     let rows : AllValid (AllPlaces IsEdge) (bands_of_set set) = subst

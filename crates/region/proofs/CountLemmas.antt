@@ -57,18 +57,18 @@ row_count top bottom v (s ∷ t ∷ steps) e =
     ∙ ap (λ n. n + length (row_rects top bottom (t ∷ steps))) (span_count top bottom s t s.value refl) ∙ ap (λ n. flag s.value + n) rest
 
 rects_from : (b : Step Columns) (bands : Bands) → AllValid HasColumns (b ∷ bands) → run_count (final_value b.value bands) ≡ 0 →
-    length (rects_of (λ c. c) (b ∷ bands)) ≡ rect_count (b ∷ bands)
+    length (rects_of (b ∷ bands)) ≡ rect_count (b ∷ bands)
 rects_from b [] h e = rw e refl
 rects_from b (c ∷ bands) h e =
-    length-append (row_rects b.from c.from b.value) (rects_of (λ c. c) (c ∷ bands))
-    ∙ ap (λ n. n + length (rects_of (λ c. c) (c ∷ bands))) (row_count b.from c.from false b.value h.0.ends)
+    length-append (row_rects b.from c.from b.value) (rects_of (c ∷ bands))
+    ∙ ap (λ n. n + length (rects_of (c ∷ bands))) (row_count b.from c.from false b.value h.0.ends)
     ∙ ap (λ n. run_count b.value + n) (rects_from c bands h.1 e)
 
 ends_from : (b : Step Columns) (bands : Bands) → final_value [] (b ∷ bands) ≡ [] → final_value b.value bands ≡ []
 ends_from b bands e = e
 
 -- the rectangles of bands are as many as the runs of their columns
-pub rects_are_counted : (bands : Bands) → IsCanonical bands → length (rects_of (λ c. c) bands) ≡ rect_count bands
+pub rects_are_counted : (bands : Bands) → IsCanonical bands → length (rects_of bands) ≡ rect_count bands
 rects_are_counted [] h = refl
 rects_are_counted (b ∷ bands) h = rects_from b bands h.values (rw (ends_from b bands h.ends) refl)
 

@@ -57,20 +57,20 @@ no_spans [] e = refl
 no_spans (s ∷ spans) e = absurd (omega (arith, ap length e))
 
 -- bands with a step more at the end
-closed : (bands : Bands) (s : Step Columns) → final_value [] bands ≡ [] → rects_of (λ c. c) (bands ++ s ∷ []) ≡ rects_of (λ c. c) bands
+closed : (bands : Bands) (s : Step Columns) → final_value [] bands ≡ [] → rects_of (bands ++ s ∷ []) ≡ rects_of bands
 closed [] s e = refl
 closed (b ∷ []) s e = rw e refl
 closed (b ∷ c ∷ bands) s e = ap (λ u. row_rects b.from c.from b.value ++ u) (closed (c ∷ bands) s e)
 
 one_more : (bands : Bands) (s t : Step Columns) →
-    rects_of (λ c. c) ((bands ++ s ∷ []) ++ t ∷ []) ≡ rects_of (λ c. c) (bands ++ s ∷ []) ++ row_rects s.from t.from s.value
+    rects_of ((bands ++ s ∷ []) ++ t ∷ []) ≡ rects_of (bands ++ s ∷ []) ++ row_rects s.from t.from s.value
 one_more [] s t = append-nil (row_rects s.from t.from s.value)
 one_more (b ∷ []) s t =
     ap (λ u. row_rects b.from s.from b.value ++ u) (append-nil (row_rects s.from t.from s.value))
     ∙ ap (λ u. u ++ row_rects s.from t.from s.value) (sym (append-nil (row_rects b.from s.from b.value)))
 one_more (b ∷ c ∷ bands) s t =
     ap (λ u. row_rects b.from c.from b.value ++ u) (one_more (c ∷ bands) s t)
-    ∙ sym (append_assoc (row_rects b.from c.from b.value) (rects_of (λ c. c) ((c ∷ bands) ++ s ∷ [])) (row_rects s.from t.from s.value))
+    ∙ sym (append_assoc (row_rects b.from c.from b.value) (rects_of ((c ∷ bands) ++ s ∷ [])) (row_rects s.from t.from s.value))
 
 -- parts of a list
 take_all : (a b : List Rect) → take (length a) (a ++ b) ≡ a
@@ -142,13 +142,13 @@ kept_more old new bands place spans before b k =
       last = ap (λ n. drop n new.rects.items) b.ended ∙ ap (drop (length before)) b.items ∙ drop_all before (rects_of_spans place place spans);
       all = λ few to columns.
           let few_then : new.count ≤ old.most = subst (λ n. new.count ≤ n) b.most few in
-          let whole : before ≡ rects_of (λ c. c) (bands ++ step ∷ []) =
+          let whole : before ≡ rects_of (bands ++ step ∷ []) =
           b.few few_then
           ∙ ap (λ l. take old.ended old.rects.items ++ map (ended_at place) l) k.last
           ∙ ap (λ l. take old.ended old.rects.items ++ l) (ended_spans k.from k.from place k.row)
           ∙ sym (k.all (omega (arith, b.count, few_then)) place (span_steps spans)) in
           one_more bands step (record { from = to; value = columns })
-          ∙ ap (λ u. rects_of (λ c. c) (bands ++ step ∷ []) ++ u) (spans_are_listed place to spans)
+          ∙ ap (λ u. rects_of (bands ++ step ∷ []) ++ u) (spans_are_listed place to spans)
           ∙ ap (λ u. u ++ rects_of_spans place to spans) (sym whole ∙ sym (take_all before (rects_of_spans place place spans))
           ∙ ap (take (length before)) (sym b.items) ∙ ap (λ n. take n new.rects.items) (sym b.ended));
     }
@@ -178,7 +178,7 @@ pub kept_is_counted : (list : BandList) (bands : Bands) → IsKept list bands �
 kept_is_counted list bands k = record { number = k.number; within = k.within; few = λ few. k }
 
 -- the list of counted bands that are few
-built_rects : (most : ℕ) (set : Point → Bool) (list : BandList) → list.count ≤ most → (b : IsBuilt most set list) → list.rects.items ≡ rects_of (λ c. c) b.bands
+built_rects : (most : ℕ) (set : Point → Bool) (list : BandList) → list.count ≤ most → (b : IsBuilt most set list) → list.rects.items ≡ rects_of b.bands
 built_rects most set list few b =
     let kept = b.counted.few (subst (λ n. list.count ≤ n) (sym b.limit) few) in
     let none : kept.row ≡ [] = no_spans kept.row (sym b.canonical.canonical.ends ∙ kept.value) in

@@ -96,30 +96,30 @@ abbrev Below : ℤ → Rect → Type 0
 Below y r = (y ≤ℤ r.top) × HasPoints r
 
 bands_begin : (b : Step (List (Step Bool))) (bands : Bands) → IsOrdered (b ∷ bands) → AllValid HasColumns (b ∷ bands) →
-    All (Below b.from) (rects_of (λ c. c) (b ∷ bands))
+    All (Below b.from) (rects_of (b ∷ bands))
 bands_begin b [] o v = All-nil (Below b.from)
-bands_begin b (c ∷ bands) o v = All-append (Below b.from) (row_rects b.from c.from b.value) (rects_of (λ c. c) (c ∷ bands))
+bands_begin b (c ∷ bands) o v = All-append (Below b.from) (row_rects b.from c.from b.value) (rects_of (c ∷ bands))
     (All-weaker (λ r. (r.top ≡ b.from) × (r.bottom ≡ c.from) × HasPoints r) (Below b.from) (λ r g. (omega (arith, ints, g.0), g.2))
     (row_rects b.from c.from b.value) (row_all b.from c.from b.value o.0 v.0))
-    (All-weaker (Below c.from) (Below b.from) (λ r g. (omega (arith, ints, g.0, o.0), g.1)) (rects_of (λ c. c) (c ∷ bands)) (bands_begin c bands o.1 v.1))
+    (All-weaker (Below c.from) (Below b.from) (λ r g. (omega (arith, ints, g.0, o.0), g.1)) (rects_of (c ∷ bands)) (bands_begin c bands o.1 v.1))
 
 bands_in_order : (b : Step (List (Step Bool))) (bands : Bands) → IsOrdered (b ∷ bands) → AllValid HasColumns (b ∷ bands) →
-    InOrder (rects_of (λ c. c) (b ∷ bands))
+    InOrder (rects_of (b ∷ bands))
 bands_in_order b [] o v = tt
 bands_in_order b (c ∷ bands) o v =
-    let later = rects_of (λ c. c) (c ∷ bands) in
+    let later = rects_of (c ∷ bands) in
     InOrder-append (row_rects b.from c.from b.value) later (row_order b.from c.from b.value o.0 v.0) (bands_in_order c bands o.1 v.1)
     (All-weaker (λ r. (r.top ≡ b.from) × (r.bottom ≡ c.from) × HasPoints r) (λ r. All (ComesFirst r) later)
     (λ r g. All-weaker (Below c.from) (ComesFirst r) (λ q below. inr (omega (arith, ints, below.0, g.1))) later (bands_begin c bands o.1 v.1))
     (row_rects b.from c.from b.value) (row_all b.from c.from b.value o.0 v.0))
 
-canonical_in_order : (bands : Bands) → IsCanonical bands → IsInOrder (rects_of (λ c. c) bands)
+canonical_in_order : (bands : Bands) → IsCanonical bands → IsInOrder (rects_of bands)
 canonical_in_order [] h = record { order = in_order_pairs [] tt; points = All-nil HasPoints }
 canonical_in_order (b ∷ bands) h =
     let o = canonical_is_ordered (b ∷ bands) h in
     record {
       order = in_order_pairs _ (bands_in_order b bands o h.values);
-      points = All-weaker (Below b.from) HasPoints (λ r g. g.1) (rects_of (λ c. c) (b ∷ bands)) (bands_begin b bands o h.values);
+      points = All-weaker (Below b.from) HasPoints (λ r g. g.1) (rects_of (b ∷ bands)) (bands_begin b bands o h.values);
     }
 
 pub region_in_order : RegionIsInOrder

@@ -13,7 +13,8 @@ use Rattle.region.specs.Steps.{Step}
 use Rattle.region.specs.Steps.{value_at, final_value, AllValid}
 use Rattle.region.specs.InnerSteps.{IsOrdered}
 use Rattle.region.specs.Columns.{column, HasColumns}
-use Rattle.region.specs.Band.{row_rects, rects_of}
+use Rattle.region.specs.Band.{Bands, row_rects, rects_of}
+use Rattle.region.specs.Columns.{Columns}
 use Rattle.region.proofs.StepLemmas.{reduced_is_ordered}
 
 -- a row lies in a band
@@ -67,27 +68,26 @@ none_after : (c : Bool) → false ≡ cond c false false
 none_after true = refl
 none_after false = refl
 
-bands_from : {V : Type 0} (columns : V → List (Step Bool)) (b : Step V) (bands : List (Step V)) (p : Point) → IsOrdered (b ∷ bands) →
-    AllValid (λ v. HasColumns (columns v)) (b ∷ bands) →
-    ((x : ℤ) → value_at false (columns (final_value b.value bands)) x ≡ false) →
-    is_in_some p (rects_of columns (b ∷ bands)) ≡ (if int_lt p.y b.from then false else value_at false (columns (value_at b.value bands p.y)) p.x)
-bands_from columns b [] p o valid none = rw (none p.x) (none_after (int_lt p.y b.from))
-bands_from columns b (c ∷ bands) p o valid none =
-    list_any-append (λ r. is_in p r) (row_rects b.from c.from (columns b.value)) (rects_of columns (c ∷ bands))
-    ∙ ap (λ u. u || is_in_some p (rects_of columns (c ∷ bands))) (row_points b.from c.from (columns b.value) p valid.0)
-    ∙ ap (λ u. (in_rows b.from c.from p.y && value_at false (columns b.value) p.x) || u) (bands_from columns c bands p o.1 valid.1 none)
-    ∙ one_band p.y b.from c.from (value_at false (columns b.value) p.x) (value_at false (columns (value_at c.value bands p.y)) p.x) o.0
-    ∙ ap (λ u. cond (int_lt p.y b.from) false u) (cond_inside (λ v. value_at false (columns v) p.x) (int_lt p.y c.from) b.value (value_at c.value bands p.y))
+bands_from : (b : Step Columns) (bands : Bands) (p : Point) → IsOrdered (b ∷ bands) →
+    AllValid HasColumns (b ∷ bands) →
+    ((x : ℤ) → value_at false (final_value b.value bands) x ≡ false) →
+    is_in_some p (rects_of (b ∷ bands)) ≡ (if int_lt p.y b.from then false else value_at false (value_at b.value bands p.y) p.x)
+bands_from b [] p o valid none = rw (none p.x) (none_after (int_lt p.y b.from))
+bands_from b (c ∷ bands) p o valid none =
+    list_any-append (λ r. is_in p r) (row_rects b.from c.from b.value) (rects_of (c ∷ bands))
+    ∙ ap (λ u. u || is_in_some p (rects_of (c ∷ bands))) (row_points b.from c.from b.value p valid.0)
+    ∙ ap (λ u. (in_rows b.from c.from p.y && value_at false b.value p.x) || u) (bands_from c bands p o.1 valid.1 none)
+    ∙ one_band p.y b.from c.from (value_at false b.value p.x) (value_at false (value_at c.value bands p.y) p.x) o.0
+    ∙ ap (λ u. cond (int_lt p.y b.from) false u) (cond_inside (λ v. value_at false v p.x) (int_lt p.y c.from) b.value (value_at c.value bands p.y))
 
 -- a point is in one of the rectangles where it is in the set
-pub rects_points : {V : Type 0} (columns : V → List (Step Bool)) (e : V) (bands : List (Step V)) (p : Point) → columns e ≡ [] → IsOrdered bands →
-    AllValid (λ v. HasColumns (columns v)) bands →
-    ((x : ℤ) → value_at false (columns (final_value e bands)) x ≡ false) →
-    is_in_some p (rects_of columns bands) ≡ value_at false (columns (value_at e bands p.y)) p.x
-rects_points columns e [] p ee o valid none = rw ee refl
-rects_points columns e (b ∷ bands) p ee o valid none = bands_from columns b bands p o valid none
-    ∙ (ap (λ u. cond (int_lt p.y b.from) u (value_at false (columns (value_at b.value bands p.y)) p.x)) (rw ee refl)
-    ∙ cond_inside (λ v. value_at false (columns v) p.x) (int_lt p.y b.from) e (value_at b.value bands p.y))
+pub rects_points : (bands : Bands) (p : Point) → IsOrdered bands →
+    AllValid HasColumns bands →
+    ((x : ℤ) → value_at false (final_value [] bands) x ≡ false) →
+    is_in_some p (rects_of bands) ≡ value_at false (value_at [] bands p.y) p.x
+rects_points [] p o valid none = refl
+rects_points (b ∷ bands) p o valid none = bands_from b bands p o valid none
+    ∙ cond_inside (λ v. value_at false v p.x) (int_lt p.y b.from) [] (value_at b.value bands p.y)
 
 -- no two share a point
 abbrev pub AllApart : List Rect → Type 0
@@ -145,15 +145,15 @@ row_is_apart : (top bottom : ℤ) (steps : List (Step Bool)) → HasColumns step
 row_is_apart top bottom [] h = tt
 row_is_apart top bottom (s ∷ steps) h = row_apart top bottom s steps (reduced_is_ordered column false (s ∷ steps) h.reduced) h.ends
 
-pub rects_apart : {V : Type 0} (columns : V → List (Step Bool)) (bands : List (Step V)) → IsOrdered bands → AllValid (λ v. HasColumns (columns v)) bands →
-    ((e : V) (x : ℤ) → value_at false (columns (final_value e bands)) x ≡ false) → AllApart (rects_of columns bands)
-rects_apart columns [] o valid none = tt
-rects_apart columns (b ∷ []) o valid none = tt
-rects_apart columns (b ∷ c ∷ bands) o valid none = AllApart-append (row_rects b.from c.from (columns b.value)) (rects_of columns (c ∷ bands))
-    (row_is_apart b.from c.from (columns b.value) valid.0) (rects_apart columns (c ∷ bands) o.1 valid.1 (λ e. none b.value))
-    (λ p. ap (λ w. w && is_in_some p (rects_of columns (c ∷ bands))) (row_points b.from c.from (columns b.value) p valid.0)
-    ∙ ap (λ w. (in_rows b.from c.from p.y && value_at false (columns b.value) p.x) && w) (bands_from columns c bands p o.1 valid.1 (none b.value))
-    ∙ past_band p.y b.from c.from (value_at false (columns b.value) p.x) (value_at false (columns (value_at c.value bands p.y)) p.x))
+pub rects_apart : (bands : Bands) → IsOrdered bands → AllValid HasColumns bands →
+    ((e : Columns) (x : ℤ) → value_at false (final_value e bands) x ≡ false) → AllApart (rects_of bands)
+rects_apart [] o valid none = tt
+rects_apart (b ∷ []) o valid none = tt
+rects_apart (b ∷ c ∷ bands) o valid none = AllApart-append (row_rects b.from c.from b.value) (rects_of (c ∷ bands))
+    (row_is_apart b.from c.from b.value valid.0) (rects_apart (c ∷ bands) o.1 valid.1 (λ e. none b.value))
+    (λ p. ap (λ w. w && is_in_some p (rects_of (c ∷ bands))) (row_points b.from c.from b.value p valid.0)
+    ∙ ap (λ w. (in_rows b.from c.from p.y && value_at false b.value p.x) && w) (bands_from c bands p o.1 valid.1 (none b.value))
+    ∙ past_band p.y b.from c.from (value_at false b.value p.x) (value_at false (value_at c.value bands p.y) p.x))
 
 shared_first : (a b c : Bool) → (a && (b || c)) ≡ false → (a && b) ≡ false
 shared_first true true c h = h
@@ -173,14 +173,3 @@ none_shared r (x ∷ xs) h = All-cons (AreApart r) x xs (λ p. shared_first (is_
 pub all_pairs_apart : (xs : List Rect) → AllApart xs → AllPairs AreApart xs
 all_pairs_apart [] h = λ i j d a b. absurd (omega arith)
 all_pairs_apart (x ∷ xs) h = AllPairs-cons AreApart x xs (none_shared x xs h.0) (all_pairs_apart xs h.1)
-
--- fewer than two steps end a band, and fewer than two bands the set
-pub row_end : (top bottom : ℤ) (rest : List (Step Bool)) → length rest < 2 → row_rects top bottom rest ≡ []
-row_end top bottom [] n = refl
-row_end top bottom (x ∷ []) n = refl
-row_end top bottom (x ∷ y ∷ rest) n = absurd (omega arith)
-
-pub bands_end : {V : Type 0} (columns : V → List (Step Bool)) (rest : List (Step V)) → length rest < 2 → rects_of columns rest ≡ []
-bands_end columns [] n = refl
-bands_end columns (x ∷ []) n = refl
-bands_end columns (x ∷ y ∷ rest) n = absurd (omega arith)

@@ -35,8 +35,8 @@ canonical_is_ordered bands h = reduced_is_ordered has_column [] bands h.reduced
 none_at_end : (bands : Bands) → IsCanonical bands → (x : ℤ) → has_column (final_value [] bands) x ≡ false
 none_at_end bands h x = rw h.ends refl
 
-pub canonical_points : (bands : Bands) → IsCanonical bands → (p : Point) → is_in_some p (rects_of (λ c. c) bands) ≡ has_point bands p
-canonical_points bands h p = rects_points (λ c. c) [] bands p refl (canonical_is_ordered bands h) h.values (none_at_end bands h)
+pub canonical_points : (bands : Bands) → IsCanonical bands → (p : Point) → is_in_some p (rects_of bands) ≡ has_point bands p
+canonical_points bands h p = rects_points bands p (canonical_is_ordered bands h) h.values (none_at_end bands h)
 
 pub region_points : (rects : List Rect) (h : IsRegion rects) (p : Point) → is_in_some p rects ≡ has_point h.bands p
 region_points rects h p = ap (is_in_some p) h.listed ∙ canonical_points h.bands h.canonical p
@@ -49,20 +49,20 @@ region_is_unique a b ha hb same =
     (same_steps has_column HasColumns
     (λ c d. c ≡ d) same_columns [] [] ha.bands hb.bands ha.canonical.values hb.canonical.values ha.canonical.reduced hb.canonical.reduced
     (λ x. refl) points) in
-    ha.listed ∙ ap (rects_of (λ c. c)) bands ∙ sym hb.listed
+    ha.listed ∙ ap rects_of bands ∙ sym hb.listed
 
 none_from : (b : Step Columns) (bands : Bands) → final_value b.value bands ≡ [] → (e : Columns) (x : ℤ) → has_column (final_value e (b ∷ bands)) x ≡ false
 none_from b bands h e x = rw h refl
 
-bands_are_apart : (bands : Bands) → IsCanonical bands → AllPairs AreApart (rects_of (λ c. c) bands)
+bands_are_apart : (bands : Bands) → IsCanonical bands → AllPairs AreApart (rects_of bands)
 bands_are_apart [] h = all_pairs_apart [] tt
-bands_are_apart (b ∷ bands) h = all_pairs_apart _ (rects_apart (λ c. c) (b ∷ bands) (canonical_is_ordered (b ∷ bands) h) h.values (none_from b bands h.ends))
+bands_are_apart (b ∷ bands) h = all_pairs_apart _ (rects_apart (b ∷ bands) (canonical_is_ordered (b ∷ bands) h) h.values (none_from b bands h.ends))
 
 pub region_is_apart : RegionIsApart
 region_is_apart rects h = subst (AllPairs AreApart) (sym h.listed) (bands_are_apart h.bands h.canonical)
 
 -- the region of canonical bands
-pub region_of_canonical : (bands : Bands) → IsCanonical bands → IsRegionOf (has_point bands) (rects_of (λ c. c) bands)
+pub region_of_canonical : (bands : Bands) → IsCanonical bands → IsRegionOf (has_point bands) (rects_of bands)
 region_of_canonical bands h = record { canonical = record { bands = bands; canonical = h; listed = refl }; points = λ p. canonical_points bands h p }
 
 pub region_same : (f g : Point → Bool) → ((p : Point) → f p ≡ g p) → (rects : List Rect) → IsRegionOf f rects → IsRegionOf g rects

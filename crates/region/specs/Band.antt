@@ -30,8 +30,8 @@ row_rects top bottom [] = []
 row_rects top bottom (s ∷ []) = []
 row_rects top bottom (s ∷ t ∷ steps) = span_rects top bottom s t ++ row_rects top bottom (t ∷ steps)
 
--- the rectangles of bands, given the columns of each
-abbrev pub rects_of : {V : Type 0} → (V → List (Step Bool)) → List (Step V) → List Rect
-rects_of columns [] = []
-rects_of columns (b ∷ []) = []
-rects_of columns (b ∷ c ∷ bands) = row_rects b.from c.from (columns b.value) ++ rects_of columns (c ∷ bands)
+-- the rectangles of bands
+abbrev pub rects_of : Bands → List Rect
+rects_of [] = []
+rects_of (b ∷ []) = []
+rects_of (b ∷ c ∷ bands) = row_rects b.from c.from b.value ++ rects_of (c ∷ bands)

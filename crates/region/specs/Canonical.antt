@@ -39,7 +39,7 @@ bands_of_set set = steps_where (row_changes set) (columns_of_row set) edges
 
 -- the list of a set
 unfoldable pub canonical_rects : (Point → Bool) → List Rect
-canonical_rects set = rects_of (λ columns. columns) (bands_of_set set)
+canonical_rects set = rects_of (bands_of_set set)
 
 -- it is the list of the set
 abbrev pub CanonicalIsOfSet : Type 0

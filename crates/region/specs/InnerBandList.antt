@@ -34,7 +34,7 @@ pub record IsKept (list : BandList) (bands : Bands) : Type 0 where
   pub value : final_value [] bands ≡ span_steps row
   pub last : drop list.ended list.rects.items ≡ rects_of_spans from from row
   pub all : list.count ≤ list.most → (to : ℤ) (columns : Columns) →
-      rects_of (λ c. c) (bands ++ record { from = to; value = columns } ∷ []) ≡ take list.ended list.rects.items ++ rects_of_spans from to row
+      rects_of (bands ++ record { from = to; value = columns } ∷ []) ≡ take list.ended list.rects.items ++ rects_of_spans from to row
 
 -- this is the number of the bands' rectangles, and they are kept where they are not too many
 pub record IsCounted (list : BandList) (bands : Bands) : Type 0 where

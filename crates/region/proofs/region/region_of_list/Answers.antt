@@ -8,7 +8,7 @@ use Rattle.region.proofs.region.region_of_list.Goals as goal
 
 pub returns-then-list-gt-MOST_RECTS : goal.returns-then-list-gt-MOST_RECTS
 returns-then-list-gt-MOST_RECTS c = λ set built. (
-  rects_of (λ v. v) built.bands,
+  rects_of built.bands,
   region_same _ set built.points _ (region_of_canonical built.bands built.canonical.canonical),
   built.counted.number ∙ sym (rects_are_counted built.bands built.canonical.canonical),
   omega arith,
