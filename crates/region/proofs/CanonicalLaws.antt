@@ -1,4 +1,4 @@
-use Rattle.std.proofs.Common.{◌≡◌, ◌∙◌, inl, inr, ap, sym, refl, map, List, [], ◌∷◌, Bool, ◌&&◌, ◌||◌, Result, Ok}
+use Rattle.std.proofs.Common.{◌≡◌, ◌∙◌, inl, inr, ap, sym, map, List, [], ◌∷◌, Bool, ◌&&◌, ◌||◌, Result, Ok}
 use Rattle.std.proofs.Common.{Err, length, ◌<◌, subst, ◌≤◌, ℤ, arith, FitsSigned, w32}
 use Rattle.std.specs.List.{All}
 use Rattle.std.proofs.lemmas.Int.{ints}
@@ -13,7 +13,7 @@ use Rattle.region.specs.declared.refusal.RegionRefusal.{RegionRefusal}
 use Rattle.region.specs.declared.refusal.RegionRefusal.TheVariants.{TooMany, NoMemory}
 use Rattle.region.specs.Operation.{holds_after}
 use Rattle.region.specs.Moved.{CanMove, moved_back}
-use Rattle.region.specs.Region.{IsRegion, IsRegionOf}
+use Rattle.region.specs.Region.{IsRegionOf}
 use Rattle.region.specs.Refusal.{IsAnswer}
 use Rattle.region.specs.Window.{IsWithinWindow, IsEdge, HasEdges, Within}
 use Rattle.region.specs.Canonical.{differ, bands_of_set, canonical_rects, CanonicalIsOfSet, Gives, AnswersAreCanonical}
@@ -42,14 +42,6 @@ canonical_points set h = (canonical_is_region set h).points
 pub canonical_is_within : (set : Point → Bool) → Within (canonical_rects set)
 unfolding canonical_rects
 canonical_is_within set = bands_lie_within set
-
--- one set has one list
-pub canonical_same : (f g : Point → Bool) → ((p : Point) → f p ≡ g p) → canonical_rects f ≡ canonical_rects g
-canonical_same f g same = λ i. canonical_rects (λ p. same p i)
-
--- the list of a region's own points is the region
-pub canonical_again : (rects : List Rect) → IsRegion rects → Within rects → canonical_rects (λ p. is_in_some p rects) ≡ rects
-canonical_again rects r h = sym (region_is_canonical (λ p. is_in_some p rects) rects (some_within rects h) (record { canonical = r; points = λ p. refl }))
 
 -- each answer of an operation gives this list
 pub answer_is_canonical : AnswersAreCanonical

@@ -91,10 +91,6 @@ one_row_is_band y rects h begun ahead = record {
   columns = All-weaker HasPoints (λ r. r.left <ℤ r.right) (λ r k. k.across) rects h.points;
 }
 
-pub band_is_row : (y : ℤ) (rects : List Rect) (here : ℕ) → IsAtRow y rects here → AreInBand (take here rects)
-band_is_row y rects here h =
-    one_row_is_band y (take here rects) (in_order_take here rects h.order) h.begun (All-take (λ r. y <ℤ r.bottom) here rects h.ahead)
-
 -- before all rows
 
 abbrev pub above_all : List Rect → ℤ

@@ -1,5 +1,5 @@
 -- Bands whose rectangles are counted and kept.
-use Rattle.std.proofs.Common.{◌≡◌, ◌∙◌, ℕ, ℤ, ◌+◌, ◌≤◌, List, [], ◌∷◌, ◌++◌, map, length, take, drop, pos, Bool, false, refl, ap, sym, subst, arith}
+use Rattle.std.proofs.Common.{◌≡◌, ◌∙◌, ℕ, ℤ, ◌+◌, ◌≤◌, List, [], ◌∷◌, ◌++◌, map, length, take, drop, pos, Bool, refl, ap, sym, subst, arith}
 use Rattle.std.proofs.Common.{length-append, append-nil, append_assoc, take-append-drop, add-one, suc, zero, ◌<◌, ◌^◌, FitsSigned, w32}
 use Rattle.std.specs.Prelude.{slice_set, slice_index_or}
 use Rattle.geom_base.specs.declared.point.Point.{Point}
@@ -273,11 +273,6 @@ built_by_steps list most grid set bands k limit h same = record {
   };
   points = λ p. h.points p.x p.y ∙ same p;
 }
-
--- no bands at all
-pub built_none : (list : BandList) (most : ℕ) (set : Point → Bool) → IsKept list [] → list.most ≡ most → ((p : Point) → set p ≡ false) → IsBuilt most set list
-built_none list most set k limit none = built_by_steps list most (λ y x. false) set [] k limit
-    (record { points = λ x y. refl; reduced = tt; values = tt; fits = tt; final = λ x. refl }) (λ p. sym (none p))
 
 -- what is built of a set is built of an equal one
 pub built_alike : (most : ℕ) (f g : Point → Bool) (list : BandList) → ((p : Point) → f p ≡ g p) → IsBuilt most f list → IsBuilt most g list

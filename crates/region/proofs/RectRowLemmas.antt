@@ -1,5 +1,5 @@
 -- Rectangles that lie in rows.
-use Rattle.std.proofs.Common.{◌≡◌, ◌∙◌, ℤ, ◌<ℤ◌, ◌≤ℤ◌, List, [], ◌∷◌, ◌++◌, map, refl, ap, sym, subst, arith}
+use Rattle.std.proofs.Common.{◌≡◌, ◌∙◌, ℤ, ◌<ℤ◌, ◌≤ℤ◌, List, [], ◌∷◌, ◌++◌, map, ap, sym, subst, arith}
 use Rattle.std.proofs.lemmas.Int.{ints}
 use Rattle.std.proofs.lemmas.List.{append_assoc, map-append}
 use Rattle.std.proofs.lemmas.List.Elements.{All-push}
@@ -10,13 +10,6 @@ use Rattle.region.specs.declared.builder.RegionBuilder.{RegionBuilder}
 use Rattle.region.specs.Builder.{HasRows}
 use Rattle.region.specs.Spans.{rects_of_spans}
 use Rattle.region.specs.InnerRectRows.{IsNext, IsRead, ArePushed}
-
-pub read_none : (row : Rect) (rects : List Rect) (end : ℤ) → IsRead row rects [] end rects
-read_none row rects end = record {
-  are = record { columns = λ i d lt. absurd (omega (arith, lt)); order = λ i j d before lt. absurd (omega (arith, lt)) };
-  before = λ i d lt. absurd (omega (arith, lt));
-  listed = refl;
-}
 
 -- the rectangle of a span in the rows of another
 abbrev rect_of : Rect → Span → Rect

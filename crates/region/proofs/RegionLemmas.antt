@@ -1,7 +1,4 @@
-use Rattle.std.proofs.Common.{◌≡◌, ◌∙◌, ℤ, List, [], ◌∷◌, Bool, false, refl, ap, sym, subst, Result, Ok, Err}
-use Rattle.region.specs.declared.refusal.RegionRefusal.{RegionRefusal}
-use Rattle.region.specs.declared.refusal.RegionRefusal.TheVariants.{TooMany, NoMemory}
-use Rattle.region.specs.Refusal.{IsAnswer}
+use Rattle.std.proofs.Common.{◌≡◌, ◌∙◌, ℤ, List, [], ◌∷◌, Bool, false, refl, ap, sym, subst}
 use Rattle.std.specs.List.{AllPairs}
 use Rattle.geom_base.specs.declared.point.Point.{Point}
 use Rattle.geom_base.specs.declared.rect.Rect.{Rect}
@@ -67,8 +64,3 @@ region_of_canonical bands h = record { canonical = record { bands = bands; canon
 
 pub region_same : (f g : Point → Bool) → ((p : Point) → f p ≡ g p) → (rects : List Rect) → IsRegionOf f rects → IsRegionOf g rects
 region_same f g same rects h = record { canonical = h.canonical; points = λ p. h.points p ∙ same p }
-
-pub answer_same : (f g : Point → Bool) → ((p : Point) → f p ≡ g p) → (result : Result (List Rect) RegionRefusal) → IsAnswer f result → IsAnswer g result
-answer_same f g same (Ok rects) h = (region_same f g same rects h.0, h.1)
-answer_same f g same (Err (TooMany n)) h = (h.0, region_same f g same h.0 h.1, h.2, h.3)
-answer_same f g same (Err NoMemory) h = tt

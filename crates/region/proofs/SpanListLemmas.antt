@@ -42,13 +42,6 @@ turned_off spans more left place true false e d m =
     append-nil (span_steps more) ∙ ap span_steps m ∙ span_steps-push spans (record { left = left; right = place })
     ∙ sym (append_assoc (span_steps spans) (record { from = left; value = true } ∷ []) (record { from = place; value = false } ∷ []))
 
--- nothing changes
-pub not_turned : (steps : Columns) (place : ℤ) (was inside : Bool) → beq inside was ≡ true → steps ≡ steps ++ change was inside place
-not_turned steps place true true e = sym (append-nil steps)
-not_turned steps place true false e = absurd (false≢true e)
-not_turned steps place false true e = absurd (false≢true e)
-not_turned steps place false false e = sym (append-nil steps)
-
 final_begun : (spans : List Span) (inside : Bool) (left : ℤ) → final_value false (span_steps spans ++ begun_step inside left) ≡ inside
 final_begun [] true left = refl
 final_begun [] false left = refl

@@ -1,5 +1,5 @@
 -- Inside the crate: what loops over steps keep.
-use Rattle.std.specs.Prelude.{◌≡◌, ℤ, ◌<ℤ◌, ◌≤ℤ◌, List, [], ◌∷◌, FitsSigned}
+use Rattle.std.specs.Prelude.{ℤ, ◌<ℤ◌, ◌≤ℤ◌, List, [], ◌∷◌, FitsSigned}
 use Rattle.std.specs.Int.{w32}
 use Rattle.region.specs.Steps.{Step}
 use Rattle.region.specs.Steps.{BeginsAfter}
@@ -8,11 +8,6 @@ use Rattle.region.specs.Steps.{BeginsAfter}
 abbrev pub BeginsFrom : {V : Type 0} → ℤ → List (Step V) → Type 0
 BeginsFrom y [] = Unit {0}
 BeginsFrom y (s ∷ steps) = y ≤ℤ s.from
-
--- the first step is at a place
-abbrev pub BeginsAt : {V : Type 0} → ℤ → List (Step V) → Type 0
-BeginsAt y [] = ⊥
-BeginsAt y (s ∷ steps) = y ≡ s.from
 
 -- all steps are before a place
 abbrev pub EndsBefore : {V : Type 0} → ℤ → List (Step V) → Type 0

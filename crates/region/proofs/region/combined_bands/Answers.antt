@@ -1,9 +1,8 @@
-use Rattle.std.proofs.Common.{◌∙◌, ap, sym, subst}
+use Rattle.std.proofs.Common.{◌∙◌, ap}
 use Rattle.geom_base.specs.Points.{is_in_some}
 use Rattle.region.specs.Operation.{holds_after}
 use Rattle.region.specs.Canonical.{point_from}
 use Rattle.region.specs.InnerSweep.{both}
-use Rattle.region.specs.InnerBandList.{IsBuilt}
 use Rattle.region.proofs.OrderLemmas.{region_in_order}
 use Rattle.region.proofs.KeptLemmas.{built_by_steps}
 use Rattle.region.proofs.region.combined_bands.Goals as goal

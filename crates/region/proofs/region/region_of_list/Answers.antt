@@ -1,6 +1,6 @@
 use Rattle.std.proofs.Common.{◌≤◌, ◌∙◌, ap, sym, subst, arith, length}
 use Rattle.region.specs.Band.{rects_of}
-use Rattle.region.specs.Region.{IsRegion, IsRegionOf}
+use Rattle.region.specs.Region.{IsRegionOf}
 use Rattle.region.proofs.RegionLemmas.{region_of_canonical, region_same}
 use Rattle.region.proofs.CountLemmas.{rects_are_counted}
 use Rattle.region.proofs.KeptLemmas.{built_region, built_count}

@@ -1,6 +1,5 @@
-use Rattle.std.proofs.Common.{◌∙◌, ◌&&◌, sym, ap, subst, rules, arith, Fits, w64}
-use Rattle.geom_base.specs.Points.{is_in, is_in_some}
-use Rattle.region.specs.Region.{IsRegionOf}
+use Rattle.std.proofs.Common.{◌∙◌, ◌&&◌, ap, rules, arith, Fits, w64}
+use Rattle.geom_base.specs.Points.{is_in_some}
 use Rattle.region.proofs.OrderLemmas.{region_in_order}
 use Rattle.region.proofs.RegionLemmas.{region_same}
 use Rattle.region.proofs.KeptLemmas.{built_region}
