@@ -122,13 +122,22 @@ def faults(gdi, verdict, known, runs):
             yield f"no run ends with status {status}"
 
 
+def can_stop(gdi):
+    """Whether gdb is here, and may stop a program that it runs."""
+    if not shutil.which("gdb"):
+        return False
+    words = ["gdb", "-batch", "-nx", "-ex", "set startup-with-shell off", "-ex", "tbreak main", "-ex", "run", "-ex", "kill", gdi.resolve()]
+    said = subprocess.run(words, capture_output=True, text=True, timeout=60, stdin=subprocess.DEVNULL)
+    return "Temporary breakpoint 1, " in said.stdout
+
+
 def main():
     parser = argparse.ArgumentParser()
     parser.add_argument("--gdi", required=True, type=Path)
     parser.add_argument("--oracle", type=Path)
     asked = parser.parse_args()
-    if not shutil.which("gdb"):
-        print("memory: gdb isn't installed, so no request for memory was refused")
+    if not can_stop(asked.gdi):
+        print("memory: gdb isn't here or may not stop a program, so no request for memory was refused")
         return 0
     known = {name: (data, programs_answer(asked.gdi, data)[0]) for name, data in inputs()}
     with tempfile.TemporaryDirectory() as folder:
