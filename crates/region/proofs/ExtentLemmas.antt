@@ -1,15 +1,18 @@
 use Rattle.std.proofs.Common.{◌≡◌, ◌↔◌, ℕ, ◌<◌, ◌≤◌, ◌+◌, ◌-ℤ◌, pos, List, [], ◌∷◌, Bool, true, false, ◌||◌, ◌&&◌, IsTrue}
-use Rattle.std.proofs.Common.{refl, sym, arith, length, get_or, drop, drop-cons, zero, suc}
+use Rattle.std.proofs.Common.{◌∙◌, refl, ap, sym, arith, length, get_or, drop, drop-cons, zero, suc, negsuc, map}
 use Rattle.std.proofs.lemmas.Int.{ints, clamps}
 use Rattle.std.specs.Int.{int_min, int_max}
-use Rattle.std.proofs.lemmas.List.Elements.{All-head, All-tail, All-cons}
+use Rattle.std.proofs.lemmas.List.Elements.{All-head, All-tail, All-cons, All-weaker}
 use Rattle.std.proofs.lemmas.Bool.{false≢true}
 use Rattle.std.specs.List.{All}
 use Rattle.geom_base.specs.declared.point.Point.{Point}
 use Rattle.geom_base.specs.declared.rect.Rect.{Rect}
-use Rattle.geom_base.specs.Points.{is_in, is_in_some, IsIn, HasPoints, no_rect}
+use Rattle.geom_base.specs.Points.{is_in, is_in_some, IsIn, HasPoints, Meet, no_rect, moved_rect}
 use Rattle.region.specs.Extents.{AreExtents}
 use Rattle.region.specs.InnerExtents.{Surrounds, IsAround}
+use Rattle.region.specs.Moved.{CanMove, moved_back}
+use Rattle.region.specs.Canonical.{point_from}
+use Rattle.region.proofs.MoveLemmas.{moved_is_in, moved_is_in_some}
 
 in_edges : (p : Point) (r : Rect) → IsTrue (is_in p r) → IsIn p r
 in_edges p r h = record { from_left = grind (arith, ints); to_right = grind (arith, ints); from_top = grind (arith, ints); to_bottom = grind (arith, ints) }
@@ -158,11 +161,10 @@ no_common a b p true true e f h = absurd (h e f)
 no_common a b p true false e f h = refl
 no_common a b p false u e f h = refl
 
-pub apart_is_nothing : (a b : List Rect) (x y common : Rect) → AreExtents a x → AreExtents b y → ((p : Point) → IsIn p common ↔ (IsIn p x × IsIn p y)) →
-    (¬ HasPoints common) → (p : Point) → (is_in_some p a && is_in_some p b) ≡ false
-apart_is_nothing a b x y common h k both none p = no_common a b p (is_in_some p a) (is_in_some p b) refl refl (λ e f.
-    let i = (both p).1 (in_edges p x (h.within p e), in_edges p y (k.within p f)) in
-    none (record { across = omega (arith, ints, i.from_left, i.to_right); down = omega (arith, ints, i.from_top, i.to_bottom) }))
+pub apart_is_nothing : (a b : List Rect) (x y : Rect) → AreExtents a x → AreExtents b y → (¬ Meet x y) → (p : Point) →
+    (is_in_some p a && is_in_some p b) ≡ false
+apart_is_nothing a b x y h k none p = no_common a b p (is_in_some p a) (is_in_some p b) refl refl
+    (λ e f. none (record { point = p; first = in_edges p x (h.within p e); second = in_edges p y (k.within p f) }))
 
 -- where extents lie in a rectangle, so do all points
 pub all_inside : (rects : List Rect) (extents bounds : Rect) → AreExtents rects extents → ((p : Point) → IsTrue (is_in p extents) → IsTrue (is_in p bounds)) →
@@ -172,3 +174,67 @@ all_inside rects extents bounds h within p = here (is_in_some p rects) refl
     here : (t : Bool) → is_in_some p rects ≡ t → t ≡ (t && is_in p bounds)
     here true e = sym (within p (h.within p e))
     here false e = refl
+
+-- extents moved
+
+-- the points that can move and stay where code can hold them
+abbrev reach : Point → Rect
+reach by = record { left = negsuc 2147483647 -ℤ by.x; top = negsuc 2147483647 -ℤ by.y; right = pos 2147483647 -ℤ by.x; bottom = pos 2147483647 -ℤ by.y }
+
+in_reach : (by : Point) (r : Rect) → CanMove by r → Surrounds (reach by) r
+in_reach by r h = record {
+  left = omega (arith, ints, h.left);
+  top = omega (arith, ints, h.top);
+  right = omega (arith, ints, h.right);
+  bottom = omega (arith, ints, h.bottom);
+}
+
+-- the edges of the smallest rectangle can move where those of all others can
+pub extents_can_move : (by : Point) (rects : List Rect) (e : Rect) → HasPoints e → AreExtents rects e → All (CanMove by) rects → CanMove by e
+extents_can_move by rects e points h all =
+    let within = All-weaker (CanMove by) (Surrounds (reach by)) (in_reach by) rects all in
+    let s = surrounds_points (reach by) e points (h.least (reach by) (λ p k. in_all p (reach by) rects within k)) in
+    record {
+      left = omega (arith, ints, s.left, s.right, points.across);
+      top = omega (arith, ints, s.top, s.bottom, points.down);
+      right = omega (arith, ints, s.left, s.right, points.across);
+      bottom = omega (arith, ints, s.top, s.bottom, points.down);
+    }
+
+abbrev negated : Point → Point
+negated by = record { x = pos 0 -ℤ by.x; y = pos 0 -ℤ by.y }
+
+there_and_back : (by p : Point) → moved_back by (moved_back (negated by) p) ≡ p
+there_and_back by p =
+    let x : (p.x -ℤ (pos 0 -ℤ by.x)) -ℤ by.x ≡ p.x = omega (arith, ints) in
+    let y : (p.y -ℤ (pos 0 -ℤ by.y)) -ℤ by.y ≡ p.y = omega (arith, ints) in
+    ap (λ z. point_from z ((p.y -ℤ (pos 0 -ℤ by.y)) -ℤ by.y)) x ∙ ap (point_from p.x) y
+
+back_and_there : (by p : Point) → moved_back (negated by) (moved_back by p) ≡ p
+back_and_there by p =
+    let x : (p.x -ℤ by.x) -ℤ (pos 0 -ℤ by.x) ≡ p.x = omega (arith, ints) in
+    let y : (p.y -ℤ by.y) -ℤ (pos 0 -ℤ by.y) ≡ p.y = omega (arith, ints) in
+    ap (λ z. point_from z ((p.y -ℤ by.y) -ℤ (pos 0 -ℤ by.y))) x ∙ ap (point_from p.x) y
+
+pub extents_move : (by : Point) (rects : List Rect) (e : Rect) → AreExtents rects e → AreExtents (map (λ r. moved_rect r by) rects) (moved_rect e by)
+extents_move by rects e h = record {
+  within = λ p k. moved_is_in p by e ∙ h.within (moved_back by p) (sym (moved_is_in_some p by rects) ∙ k);
+  least = λ other all p k.
+      let from : Rect = moved_rect other (negated by) in
+      let each = λ (q : Point) (t : IsTrue (is_in_some q rects)). let moved : Point = moved_back (negated by) q in
+      moved_is_in q (negated by) other ∙ all moved (moved_is_in_some moved by rects ∙ ap (λ s. is_in_some s rects) (there_and_back by q) ∙ t) in
+      ap (λ q. is_in q other) (sym (back_and_there by p)) ∙ sym (moved_is_in (moved_back by p) (negated by) other)
+      ∙ h.least from each (moved_back by p) (sym (moved_is_in p by e) ∙ k);
+}
+
+-- without points they stay
+pub no_extents_move : (by : Point) (rects : List Rect) (e : Rect) → (¬ HasPoints e) → AreExtents rects e → AreExtents (map (λ r. moved_rect r by) rects) e
+no_extents_move by rects e none h = record {
+  within = λ p k. absurd (nowhere (moved_back by p) (h.within (moved_back by p) (sym (moved_is_in_some p by rects) ∙ k)));
+  least = λ other all p k. absurd (nowhere p k);
+}
+  where
+    nowhere : (p : Point) → IsTrue (is_in p e) → ⊥
+    nowhere p k =
+        let i = in_edges p e k in
+        none (record { across = omega (arith, ints, i.from_left, i.to_right); down = omega (arith, ints, i.from_top, i.to_bottom) })

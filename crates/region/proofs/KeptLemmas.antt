@@ -85,18 +85,6 @@ ended_spans : (from top place : ℤ) (spans : List Span) → map (ended_at place
 ended_spans from top place [] = refl
 ended_spans from top place (s ∷ spans) = ap (λ u. record { left = s.left; top = top; right = s.right; bottom = place } ∷ u) (ended_spans from top place spans)
 
-pub ended_next : (place : ℤ) (old items : List Rect) (i : ℕ) (d : Rect) → i < length old → items ≡ map (ended_at place) (take i old) ++ drop i old →
-    slice_set items i (ended_at place (slice_index_or items i d)) ≡ map (ended_at place) (take (i + 1) old) ++ drop (i + 1) old
-ended_next place old items i d lt e = ap (λ l. slice_set l i (ended_at place (slice_index_or l i d))) e ∙ step old i lt
-    ∙ ap (λ n. map (ended_at place) (take n old) ++ drop n old) (sym (add-one i))
-  where
-    step : (old : List Rect) (i : ℕ) → i < length old →
-        slice_set (map (ended_at place) (take i old) ++ drop i old) i (ended_at place (slice_index_or (map (ended_at place) (take i old) ++ drop i old) i d)) ≡
-        map (ended_at place) (take (suc i) old) ++ drop (suc i) old
-    step [] i lt = absurd (omega (arith, lt))
-    step (r ∷ old) zero lt = refl
-    step (r ∷ old) (suc i) lt = ap (λ l. ended_at place r ∷ l) (step old i (omega (arith, lt)))
-
 -- no bands
 pub kept_none : (list : BandList) → list.count ≡ 0 → list.ended ≡ 0 → list.rects.items ≡ [] → IsKept list []
 kept_none list count ended items = record {

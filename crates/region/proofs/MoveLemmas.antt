@@ -13,7 +13,7 @@ moved_le a x b = grind (arith, ints)
 pub moved_lt : (a x b : ℤ) → int_lt x (a +ℤ b) ≡ int_lt (x -ℤ b) a
 moved_lt a x b = grind (arith, ints)
 
-moved_is_in : (p by : Point) (r : Rect) → is_in p (moved_rect r by) ≡ is_in (moved_back by p) r
+pub moved_is_in : (p by : Point) (r : Rect) → is_in p (moved_rect r by) ≡ is_in (moved_back by p) r
 moved_is_in p by r = rw (moved_le r.left p.x by.x, moved_lt r.right p.x by.x, moved_le r.top p.y by.y, moved_lt r.bottom p.y by.y) refl
 
 -- a point is in moved rectangles where it was in them before

@@ -86,19 +86,6 @@ impl BandList {
         self.count + more > self.most
     }
 
-    /// Counts the rectangles of a band with which they are too many, and keeps none.
-    pub fn skip(&mut self, more: u64)
-        requires { self.old.count + more < 2 ^ 64 }
-        ensures count { self.new.count ≡ self.old.count + more }
-        ensures none { self.new.rects.items ≡ [] }
-        ensures ended { self.new.ended ≡ 0 }
-        ensures most { self.new.most ≡ self.old.most }
-    {
-        self.count += more;
-        self.rects.clear();
-        self.ended = 0;
-    }
-
     /// Ends the last band before a row.
     fn end(&mut self, place: i32)
         requires { self.old.ended ≤ length self.old.rects.items }
@@ -113,7 +100,7 @@ impl BandList {
     }
 
     /// Counts so many rectangles more.
-    fn add(&mut self, more: u64)
+    pub fn add(&mut self, more: u64)
         requires { self.old.count + more < 2 ^ 64 }
         ensures count { self.new.count ≡ self.old.count + more }
         ensures few { self.old.count + more ≤ self.old.most → (self.new.rects.items ≡ self.old.rects.items) × (self.new.ended ≡ self.old.ended) }

@@ -56,9 +56,9 @@ pub fn moved_rects(alloc: Global, rects: &[Rect], by: &Point) -> Result<Vec<Rect
     requires { All (CanMove by.now) rects.now }
     ensures { IfOk result (λ r. r.items ≡ map (λ rect. moved_rect rect by.now) rects.now) }
 {
-    let mut moved = Vec::with_capacity(alloc, rects.len())?;
-    for rect in rects {
-        moved.push(rect.shifted(*by))?;
+    let mut moved = Vec::from_slice(alloc, rects)?;
+    for rect in moved.as_mut_slice() {
+        *rect = rect.shifted(*by);
     }
     Ok(moved)
 }

@@ -20,7 +20,7 @@ use crate::band_cursor::BandCursor;
 use crate::band_list::{BandList, MOST_RECTS};
 use crate::band_output::BandOutput;
 use crate::bounds::rects_of_bounds;
-use crate::extents::extents_of;
+use crate::extents::{extents_of, moved_extents};
 use crate::meets::rects_meet;
 use crate::operation::Operation;
 use crate::rect_list::{any_holds, are_within, moved_rects};
@@ -144,7 +144,7 @@ impl Region {
     fn is_apart(&self, other: &Region) -> bool
         ensures { IsTrue result → (p : Point) → (is_in_some p self.now && is_in_some p other.now) ≡ false }
     {
-        !self.extents.intersect(other.extents).has_points()
+        !self.extents.meets(other.extents)
     }
 
     /// The same points once more.
@@ -153,8 +153,10 @@ impl Region {
         ensures region { IfOk result IsRegion }
         ensures few { IfOk result (λ r. length r ≤ most_rects) }
     {
-        let rects = Vec::from_slice(alloc, &self.rects)?;
-        Ok(region_of_rects(rects))
+        Ok(Region {
+            rects: Vec::from_slice(alloc, &self.rects)?,
+            extents: self.extents,
+        })
     }
 
     /// The smallest rectangle that has all points; one without points where there are none.
@@ -195,8 +197,10 @@ impl Region {
         ensures moved { IfOk result (λ r. r ≡ map (λ rect. moved_rect rect by) self.now) }
         ensures few { IfErr result (λ refusal. refusal ≡ RegionRefusal.NoMemory) }
     {
-        let rects = moved_rects(alloc, &self.rects, &by)?;
-        Ok(region_of_rects(rects))
+        Ok(Region {
+            rects: moved_rects(alloc, &self.rects, &by)?,
+            extents: moved_extents(self.extents, by),
+        })
     }
 
     /// The rectangles of the points in a rectangle, however many.

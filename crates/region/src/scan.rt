@@ -116,7 +116,7 @@ fn push_band(
 {
     let runs = cover.strip().row.runs;
     if bands.is_past(runs) {
-        bands.skip(runs);
+        bands.add(runs);
         return Ok(());
     }
     let columns = cover.columns(alloc, row)?;

@@ -2,7 +2,8 @@ use Rattle.std.proofs.Common.{◌≡◌, ◌∙◌, ap, rules, w32, to_z, of_z, 
 use Rattle.std.specs.Prelude.{slice_set, slice_index_or}
 use Rattle.std.proofs.lemmas.Int.{to_z-of_z}
 use Rattle.geom_base.specs.declared.rect.Rect.{Rect}
-use Rattle.region.proofs.KeptLemmas.{ended_next}
+use Rattle.region.specs.InnerBandList.{ended_at}
+use Rattle.region.proofs.EachLemmas.{each_next}
 use Rattle.region.proofs.band_list.end_rects.Goals as goal
 
 pub loop-rect-preserved : goal.loop-rect-preserved
@@ -11,4 +12,4 @@ loop-rect-preserved c =
     let none : Rect = record { left = pos 0; top = pos 0; right = pos 0; bottom = pos 0 } in
     let old : Rect = slice_index_or c.loop-rect.rect-items c.loop-rect.rect-index none in
     ap (λ z. slice_set c.loop-rect.rect-items c.loop-rect.rect-index (record { left = old.left; top = old.top; right = old.right; bottom = z })) place
-    ∙ ended_next c.args.place.now c.args.rects.now c.loop-rect.rect-items c.loop-rect.rect-index none c.loop-rect-test.true c.loop-rect.invariant
+    ∙ each_next (ended_at c.args.place.now) c.args.rects.now c.loop-rect.rect-items c.loop-rect.rect-index none c.loop-rect-test.true c.loop-rect.invariant

@@ -1,6 +1,7 @@
 use Rattle.std.proofs.Common.{◌∙◌, sym, subst}
-use Rattle.region.specs.Region.{IsRegion}
+use Rattle.region.specs.InnerExtents.{IsKeptRegion}
 use Rattle.region.proofs.region.Region.copied.Goals as goal
 
-pub region_of_rects-requires-clause-region : goal.region_of_rects-requires-clause-region
-region_of_rects-requires-clause-region c = subst IsRegion (sym (c.in_ok-rects.ensures.items ∙ c.deref.ensures.value)) c.self.invariant.region
+pub invariant_of-result : goal.invariant_of-result
+invariant_of-result c =
+    subst (λ l. IsKeptRegion l c.self.inside.extents) (sym (c.in_ok-from_slice.ensures.items ∙ c.deref.ensures.value)) c.self.invariant

@@ -12,5 +12,5 @@ pub returns : goal.returns
 returns c =
     let left = subst (λ l. AreExtents l c.self.inside.extents) c.self.view_is c.self.invariant.extents in
     let right = subst (λ l. AreExtents l c.other.inside.extents) c.other.view_is c.other.invariant.extents in
-    λ t. apart_is_nothing c.args.self.now c.args.other.now c.self.inside.extents c.other.inside.extents c.intersect.result left right c.intersect.ensures.common
-    (λ h. not_both c.has_points.result t (c.has_points.ensures.points.1 h))
+    λ t. apart_is_nothing c.args.self.now c.args.other.now c.self.inside.extents c.other.inside.extents left right
+    (λ m. not_both c.meets.result t (c.meets.ensures.1 m))
