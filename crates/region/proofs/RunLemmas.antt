@@ -13,7 +13,7 @@ use Rattle.region.proofs.StepLemmas.{AllValid-push, AllFit-push, IsReduced-push,
 use Rattle.region.proofs.RectLemmas.{in_rows}
 
 -- a step more at the end
-value_at-push : {V : Type 0} (v : V) (steps : List (Step V)) (from : ℤ) (value : V) (y : ℤ) → EndsBefore from steps →
+pub value_at-push : {V : Type 0} (v : V) (steps : List (Step V)) (from : ℤ) (value : V) (y : ℤ) → EndsBefore from steps →
     value_at v (steps ++ record { from = from; value = value } ∷ []) y ≡ cond (int_lt y from) (value_at v steps y) value
 value_at-push v [] from value y h = refl
 value_at-push v (t ∷ steps) from value y h = elim (at_or_before y t.from) [
@@ -22,7 +22,7 @@ value_at-push v (t ∷ steps) from value y h = elim (at_or_before y t.from) [
 ]
 
 -- after the last step
-value_at-after : {V : Type 0} (v : V) (steps : List (Step V)) (place y : ℤ) → EndsBefore place steps → place ≤ℤ y → value_at v steps y ≡ final_value v steps
+pub value_at-after : {V : Type 0} (v : V) (steps : List (Step V)) (place y : ℤ) → EndsBefore place steps → place ≤ℤ y → value_at v steps y ≡ final_value v steps
 value_at-after v [] place y h k = refl
 value_at-after v (t ∷ steps) place y h k = rw (ge_is y t.from (omega (arith, ints, h.0, k))) (value_at-after t.value steps place y h.1 k)
 

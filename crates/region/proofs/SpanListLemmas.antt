@@ -20,7 +20,7 @@ use Rattle.region.specs.InnerColumns.{IsColumns}
 use Rattle.region.specs.InnerSweep.{AreStepsOf, IsPut}
 use Rattle.region.specs.InnerSpanList.{span_of, span_steps, begun_step, steps_of, change}
 
-span_steps-push : (spans : List Span) (s : Span) →
+pub span_steps-push : (spans : List Span) (s : Span) →
     span_steps (spans ++ s ∷ []) ≡ span_steps spans ++ record { from = s.left; value = true } ∷ record { from = s.right; value = false } ∷ []
 span_steps-push [] s = refl
 span_steps-push (t ∷ spans) s = ap (λ u. record { from = t.left; value = true } ∷ record { from = t.right; value = false } ∷ u) (span_steps-push spans s)

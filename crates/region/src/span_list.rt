@@ -1,16 +1,18 @@
 //! The spans of a row, column after column.
 
-ghost use Rattle.std.specs.Prelude.{◌≡◌, ◌++◌, [], ℤ, Bool, OnOk, false};
+ghost use Rattle.std.specs.Prelude.{◌≡◌, ◌++◌, ◌||◌, ◌&&◌, ◌<ℤ◌, ◌≤ℤ◌, [], ℤ, Bool, OnOk, false, int_lt, int_le};
 ghost use Rattle.region.specs.Operation.{holds_after};
 ghost use Rattle.region.specs.Columns.{has_column};
 ghost use Rattle.region.specs.InnerColumns.{IsColumns};
 ghost use Rattle.region.specs.InnerCursor.{AreInBand, in_columns};
 ghost use Rattle.region.specs.InnerSpanList.{change, span_steps, steps_of};
+ghost use Rattle.region.specs.InnerRows.{IsRow};
 
 use crate::operation::Operation;
 use crate::span::Span;
 use crate::span_cursor::SpanCursor;
 use crate::sweep::{Output, sweep};
+use crate::two_bands::{add_common, add_either, add_others};
 use geom_base::Rect;
 use std::alloc::{AllocError, Global};
 
@@ -72,6 +74,19 @@ impl SpanList {
         Ok(())
     }
 
+    /// Adds columns to the right of all others, which they do not touch.
+    pub fn add(&mut self, left: i32, right: i32) -> Result<(), AllocError>
+        requires { IsRow left self.old.spans.items }
+        ensures row { OnOk result ((z : ℤ) → left ≤ℤ z → (left <ℤ right → right <ℤ z) → IsRow z self.new.spans.items) }
+        ensures points { OnOk result ((x : ℤ) → has_column (span_steps self.new.spans.items) x ≡
+            (has_column (span_steps self.old.spans.items) x || (int_le left x && int_lt x right))) }
+    {
+        if left < right {
+            self.spans.push(Span { left, right })?;
+        }
+        Ok(())
+    }
+
     /// Adds the spans of a band to no others.
     fn copy(&mut self, band: &[Rect]) -> Result<(), AllocError>
         requires band { AreInBand band.now }
@@ -107,12 +122,17 @@ impl SpanList {
             ([], _) if operation.holds(false, true) => self.copy(right),
             (_, []) => Ok(()),
             ([], _) => Ok(()),
-            _ => sweep(
-                operation,
-                SpanCursor::new(left),
-                SpanCursor::new(right),
-                self,
-            ),
+            _ => match operation {
+                Operation::Union => add_either(self, left, right),
+                Operation::Intersect => add_common(self, left, right),
+                Operation::Subtract => add_others(self, left, right),
+                Operation::Xor => sweep(
+                    operation,
+                    SpanCursor::new(left),
+                    SpanCursor::new(right),
+                    self,
+                ),
+            },
         }
     }
 }

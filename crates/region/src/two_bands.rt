@@ -1,0 +1,116 @@
+//! The columns of two bands, from left to right.
+
+ghost use Rattle.std.specs.Prelude.{◌≡◌, ◌&&◌, ◌||◌, not, [], ℤ, OnOk, MatchOption};
+ghost use Rattle.region.specs.Columns.{has_column};
+ghost use Rattle.region.specs.InnerColumns.{IsColumns};
+ghost use Rattle.region.specs.InnerCursor.{AreInBand, in_columns};
+ghost use Rattle.region.specs.InnerSpanList.{span_steps};
+ghost use Rattle.region.specs.InnerRows.{IsFree, IsLeftmost, IsPast};
+
+use crate::search::{Edge, count_until};
+use crate::span_list::SpanList;
+use geom_base::Rect;
+use std::alloc::AllocError;
+
+/// The rectangles of a band that reach past a column.
+fn past<'a>(band: &'a [Rect], place: &i32) -> &'a [Rect]
+    requires { AreInBand band.now }
+    ensures { IsPast place.now band.now result.now }
+{
+    band.split_at(count_until(band, Edge::Right, place)).1
+}
+
+/// Adds the columns that both bands have.
+pub fn add_common(row: &mut SpanList, left: &[Rect], right: &[Rect]) -> Result<(), AllocError>
+    requires left { AreInBand left.now }
+    requires right { AreInBand right.now }
+    requires nothing { row.old.spans.items ≡ [] }
+    ensures columns { OnOk result (IsColumns (span_steps row.new.spans.items)) }
+    ensures points { OnOk result ((x : ℤ) → has_column (span_steps row.new.spans.items) x ≡ (in_columns x left.now && in_columns x right.now)) }
+{
+    let mut a = left;
+    let mut b = right;
+    while let ([first, ..], [second, ..]) = (a, b) {
+        let from = first.left.max(second.left);
+        let to = first.right.min(second.right);
+        row.add(from, to)?;
+        let place = from.max(to);
+        a = past(a, &place);
+        b = past(b, &place);
+    }
+    Ok(())
+}
+
+/// Where a rectangle ends for now, before the first of a band or at its own end, and from where on it has to be looked at again.
+fn end_before(rect: &Rect, band: &[Rect]) -> (i32, i32)
+    ensures { IsFree rect.now band.now result.0 result.1 }
+{
+    match band {
+        [hole, ..] if hole.left < rect.right => (hole.left, hole.right),
+        _ => (rect.right, rect.right),
+    }
+}
+
+/// Adds the columns of one band that another does not have.
+pub fn add_others(row: &mut SpanList, left: &[Rect], right: &[Rect]) -> Result<(), AllocError>
+    requires left { AreInBand left.now }
+    requires right { AreInBand right.now }
+    requires nothing { row.old.spans.items ≡ [] }
+    ensures columns { OnOk result (IsColumns (span_steps row.new.spans.items)) }
+    ensures points { OnOk result ((x : ℤ) → has_column (span_steps row.new.spans.items) x ≡ (in_columns x left.now && not (in_columns x right.now))) }
+{
+    let [first, ..] = left else {
+        return Ok(());
+    };
+    let mut place = first.left;
+    let mut a = left;
+    let mut b = right;
+    while let [rect, ..] = a {
+        let from = rect.left.max(place);
+        let (to, end) = end_before(rect, b);
+        row.add(from, to)?;
+        place = end.max(from);
+        a = past(a, &place);
+        b = past(b, &place);
+    }
+    Ok(())
+}
+
+/// The rectangle of two bands that begins first.
+fn leftmost<'a>(a: &'a [Rect], b: &'a [Rect]) -> Option<&'a Rect>
+    ensures { MatchOption result ((a.now ≡ []) × (b.now ≡ [])) (λ r. IsLeftmost r.now a.now b.now) }
+{
+    match (a, b) {
+        ([first, ..], [second, ..]) if second.left < first.left => Some(second),
+        ([first, ..], _) => Some(first),
+        ([], [second, ..]) => Some(second),
+        ([], []) => None,
+    }
+}
+
+/// Adds the columns that either band has.
+pub fn add_either(row: &mut SpanList, left: &[Rect], right: &[Rect]) -> Result<(), AllocError>
+    requires left { AreInBand left.now }
+    requires right { AreInBand right.now }
+    requires nothing { row.old.spans.items ≡ [] }
+    ensures columns { OnOk result (IsColumns (span_steps row.new.spans.items)) }
+    ensures points { OnOk result ((x : ℤ) → has_column (span_steps row.new.spans.items) x ≡ (in_columns x left.now || in_columns x right.now)) }
+{
+    let Some(first) = leftmost(left, right) else {
+        return Ok(());
+    };
+    let mut from = first.left;
+    let mut to = first.right;
+    let mut a = past(left, &to);
+    let mut b = past(right, &to);
+    while let Some(next) = leftmost(a, b) {
+        if to < next.left {
+            row.add(from, to)?;
+            from = next.left;
+        }
+        to = to.max(next.right);
+        a = past(a, &to);
+        b = past(b, &to);
+    }
+    row.add(from, to)
+}
