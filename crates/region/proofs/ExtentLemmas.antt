@@ -166,6 +166,33 @@ pub apart_is_nothing : (a b : List Rect) (x y : Rect) → AreExtents a x → Are
 apart_is_nothing a b x y h k none p = no_common a b p (is_in_some p a) (is_in_some p b) refl refl
     (λ e f. none (record { point = p; first = in_edges p x (h.within p e); second = in_edges p y (k.within p f) }))
 
+-- what surrounds all rectangles is what surrounds their extents
+pub extents_surround : (outer : Rect) (rects : List Rect) (e : Rect) → HasPoints e → All HasPoints rects → AreExtents rects e →
+    All (Surrounds outer) rects ↔ Surrounds outer e
+extents_surround outer rects e points h extents = (
+  λ all. surrounds_points outer e points (extents.least outer (λ p k. in_all p outer rects all k)),
+  λ s. surrounds_all outer rects h (λ p k. in_outer p outer e s (extents.within p k)),
+)
+
+-- no point is in a rectangle without points
+pub nowhere : (e : Rect) → (¬ HasPoints e) → (p : Point) → IsTrue (is_in p e) → ⊥
+nowhere e none p k =
+    let i = in_edges p e k in
+    none (record { across = omega (arith, ints, i.from_left, i.to_right); down = omega (arith, ints, i.from_top, i.to_bottom) })
+
+pub no_rects_without : (rects : List Rect) (e : Rect) → (¬ HasPoints e) → All HasPoints rects → AreExtents rects e → rects ≡ []
+no_rects_without [] e none h extents = refl
+no_rects_without (r ∷ rects) e none h extents =
+    let points = All-head HasPoints r rects h in
+    let first : Point = record { x = r.left; y = r.top } in
+    let inside = in_test first r (record {
+      from_left = omega (arith, ints);
+      to_right = points.across;
+      from_top = omega (arith, ints);
+      to_bottom = points.down;
+    }) in
+    absurd (nowhere e none first (extents.within first (first_of (is_in first r) (is_in_some first rects) inside)))
+
 -- where extents lie in a rectangle, so do all points
 pub all_inside : (rects : List Rect) (extents bounds : Rect) → AreExtents rects extents → ((p : Point) → IsTrue (is_in p extents) → IsTrue (is_in p bounds)) →
     (p : Point) → is_in_some p rects ≡ (is_in_some p rects && is_in p bounds)
@@ -230,11 +257,6 @@ extents_move by rects e h = record {
 -- without points they stay
 pub no_extents_move : (by : Point) (rects : List Rect) (e : Rect) → (¬ HasPoints e) → AreExtents rects e → AreExtents (map (λ r. moved_rect r by) rects) e
 no_extents_move by rects e none h = record {
-  within = λ p k. absurd (nowhere (moved_back by p) (h.within (moved_back by p) (sym (moved_is_in_some p by rects) ∙ k)));
-  least = λ other all p k. absurd (nowhere p k);
+  within = λ p k. absurd (nowhere e none (moved_back by p) (h.within (moved_back by p) (sym (moved_is_in_some p by rects) ∙ k)));
+  least = λ other all p k. absurd (nowhere e none p k);
 }
-  where
-    nowhere : (p : Point) → IsTrue (is_in p e) → ⊥
-    nowhere p k =
-        let i = in_edges p e k in
-        none (record { across = omega (arith, ints, i.from_left, i.to_right); down = omega (arith, ints, i.from_top, i.to_bottom) })

@@ -60,6 +60,11 @@ pub record IsLeftmost (r : Rect) (a b : List Rect) : Type 0 where
   pub first : BeginsLater r.left a
   pub second : BeginsLater r.left b
 
+-- and this is what is left of both
+pub record IsTaken (r : Rect) (a b rest_a rest_b : List Rect) : Type 0 where
+  pub leftmost : IsLeftmost r a b
+  pub rest : ((a ≡ r ∷ rest_a) × (rest_b ≡ b)) ⊎ ((b ≡ r ∷ rest_b) × (rest_a ≡ a))
+
 -- the spans so far, one that has begun, and what is left of two bands are a set
 pub record IsUniting (set : ℤ → Bool) (a b : List Rect) (from to : ℤ) (spans : List Span) : Type 0 where
   pub first : AreInBand a

@@ -4,7 +4,7 @@ ghost use Rattle.std.specs.Prelude.{◌≡◌, ◌↔◌, ◌+ℤ◌, map, IfOk,
 ghost use Rattle.std.specs.List.{All};
 ghost use Rattle.geom_base.specs.Points.{is_in_some, moved_rect};
 ghost use Rattle.region.specs.Moved.{CanMove};
-ghost use Rattle.region.specs.Window.{IsEdge, HasEdges, Within};
+ghost use Rattle.region.specs.Window.{IsEdge, HasEdges};
 
 use geom_base::{Point, Rect};
 use std::alloc::{AllocError, Global};
@@ -24,7 +24,7 @@ fn is_edge(from: i32, by: i32) -> bool
 }
 
 /// Whether all edges of a rectangle moved are coordinates of edges.
-fn has_edges(rect: &Rect, by: &Point) -> bool
+pub fn has_edges(rect: &Rect, by: &Point) -> bool
     ensures { IsTrue result ↔ HasEdges (moved_rect rect.now by.now) }
 {
     if !is_edge(rect.left, by.x) {
@@ -37,18 +37,6 @@ fn has_edges(rect: &Rect, by: &Point) -> bool
         return false;
     }
     is_edge(rect.bottom, by.y)
-}
-
-/// Whether all edges of the rectangles moved are coordinates of edges.
-pub fn are_within(rects: &[Rect], by: &Point) -> bool
-    ensures { IsTrue result ↔ Within (map (λ rect. moved_rect rect by.now) rects.now) }
-{
-    for rect in rects {
-        if !has_edges(rect, by) {
-            return false;
-        }
-    }
-    true
 }
 
 /// Each rectangle moved.

@@ -23,7 +23,7 @@ use crate::bounds::rects_of_bounds;
 use crate::extents::{extents_of, moved_extents};
 use crate::meets::rects_meet;
 use crate::operation::Operation;
-use crate::rect_list::{any_holds, are_within, moved_rects};
+use crate::rect_list::{any_holds, has_edges, moved_rects};
 use crate::rect_rows::built_by_rows;
 use crate::refusal::RegionRefusal;
 use crate::scan::scanned_bands;
@@ -185,7 +185,10 @@ impl Region {
         ensures within { IsTrue result ↔ Within (map (λ rect. moved_rect rect by) self.now) }
         ensures can_move { IsTrue result → All (CanMove by) self.now }
     {
-        are_within(&self.rects, &by)
+        if !self.extents.has_points() {
+            return true;
+        }
+        has_edges(&self.extents, &by)
     }
 
     /// The points moved.

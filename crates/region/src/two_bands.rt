@@ -5,7 +5,7 @@ ghost use Rattle.region.specs.Columns.{has_column};
 ghost use Rattle.region.specs.InnerColumns.{IsColumns};
 ghost use Rattle.region.specs.InnerCursor.{AreInBand, in_columns};
 ghost use Rattle.region.specs.InnerSpanList.{span_steps};
-ghost use Rattle.region.specs.InnerRows.{IsFree, IsLeftmost, IsPast};
+ghost use Rattle.region.specs.InnerRows.{IsFree, IsPast, IsTaken};
 
 use crate::search::{Edge, count_until};
 use crate::span_list::SpanList;
@@ -76,14 +76,17 @@ pub fn add_others(row: &mut SpanList, left: &[Rect], right: &[Rect]) -> Result<(
     Ok(())
 }
 
-/// The rectangle of two bands that begins first.
-fn leftmost<'a>(a: &'a [Rect], b: &'a [Rect]) -> Option<&'a Rect>
-    ensures { MatchOption result ((a.now ≡ []) × (b.now ≡ [])) (λ r. IsLeftmost r.now a.now b.now) }
+/// The rectangle of two bands that begins first, and what is left of both.
+#[inline(always)]
+fn leftmost<'a>(a: &'a [Rect], b: &'a [Rect]) -> Option<(&'a Rect, &'a [Rect], &'a [Rect])>
+    ensures { MatchOption result ((a.now ≡ []) × (b.now ≡ [])) (λ r. IsTaken r.0.now a.now b.now r.1.now r.2.now) }
 {
     match (a, b) {
-        ([first, ..], [second, ..]) if second.left < first.left => Some(second),
-        ([first, ..], _) => Some(first),
-        ([], [second, ..]) => Some(second),
+        ([first, ..], [second, ..]) if second.left < first.left => {
+            Some((second, a, b.split_at(1).1))
+        }
+        ([first, ..], _) => Some((first, a.split_at(1).1, b)),
+        ([], [second, ..]) => Some((second, a, b.split_at(1).1)),
         ([], []) => None,
     }
 }
@@ -96,21 +99,21 @@ pub fn add_either(row: &mut SpanList, left: &[Rect], right: &[Rect]) -> Result<(
     ensures columns { OnOk result (IsColumns (span_steps row.new.spans.items)) }
     ensures points { OnOk result ((x : ℤ) → has_column (span_steps row.new.spans.items) x ≡ (in_columns x left.now || in_columns x right.now)) }
 {
-    let Some(first) = leftmost(left, right) else {
+    let Some((first, rest_left, rest_right)) = leftmost(left, right) else {
         return Ok(());
     };
     let mut from = first.left;
     let mut to = first.right;
-    let mut a = past(left, &to);
-    let mut b = past(right, &to);
-    while let Some(next) = leftmost(a, b) {
+    let mut a = rest_left;
+    let mut b = rest_right;
+    while let Some((next, rest_a, rest_b)) = leftmost(a, b) {
         if to < next.left {
             row.add(from, to)?;
             from = next.left;
         }
         to = to.max(next.right);
-        a = past(a, &to);
-        b = past(b, &to);
+        a = rest_a;
+        b = rest_b;
     }
     row.add(from, to)
 }
