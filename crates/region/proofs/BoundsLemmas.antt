@@ -94,7 +94,7 @@ rect_decides a b = Decides-like (int_eq a.left b.left && (int_eq a.top b.top && 
     (Decides-and (int_eq a.top b.top) (int_eq a.right b.right && int_eq a.bottom b.bottom) (Decides-int_eq a.top b.top)
     (Decides-and (int_eq a.right b.right) (int_eq a.bottom b.bottom) (Decides-int_eq a.right b.right) (Decides-int_eq a.bottom b.bottom))))
 
-single : (rects : List Rect) (d : Rect) → 1 ≤ length rects → length rects < 2 → rects ≡ get_or rects 0 d ∷ []
+pub single : (rects : List Rect) (d : Rect) → 1 ≤ length rects → length rects < 2 → rects ≡ get_or rects 0 d ∷ []
 single [] d h k = absurd (omega (arith, h))
 single (r ∷ []) d h k = refl
 single (r ∷ s ∷ rects) d h k = absurd (omega (arith, k))

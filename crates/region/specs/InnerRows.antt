@@ -30,6 +30,15 @@ pub record IsMeeting (set : ℤ → Bool) (a b : List Rect) (spans : List Span) 
   pub row : IsRow end spans
   pub later : All (λ r. end ≤ℤ r.left) a ⊎ All (λ r. end ≤ℤ r.left) b
 
+-- the spans so far, and the columns that what is left of a band has in common with a rectangle, are a set; all that is left reaches into it
+pub record IsCutting (set : ℤ → Bool) (bounds : Rect) (band : List Rect) (spans : List Span) : Type 0 where
+  pub band_left : AreInBand band
+  pub points : (x : ℤ) → (has_column (span_steps spans) x || (in_columns x band && in_columns x (bounds ∷ []))) ≡ set x
+  pub ahead : All (λ r. bounds.left <ℤ r.right) band
+  pub end : ℤ
+  pub row : IsRow end spans
+  pub later : All (λ r. end ≤ℤ r.left) band
+
 -- where a rectangle ends for now: before the first of a band, or at its own end; and up to where all is known then
 abbrev pub IsFree : Rect → List Rect → ℤ → ℤ → Type 0
 IsFree r [] to end = (to ≡ r.right) × (end ≡ r.right)

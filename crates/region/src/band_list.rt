@@ -42,6 +42,7 @@ impl BandList {
     }
 
     /// From a row on, the columns are those of these spans.
+    #[inline(always)]
     pub fn put_row(&mut self, place: i32, spans: &[Span]) -> Result<(), AllocError>
         requires columns { IsColumns (span_steps spans.now) }
         requires bands { (bands : Bands) × IsKept self.old bands × CanTake IsColumns place bands }

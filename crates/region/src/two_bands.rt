@@ -1,6 +1,6 @@
 //! The columns of two bands, from left to right.
 
-ghost use Rattle.std.specs.Prelude.{◌≡◌, ◌&&◌, ◌||◌, not, [], ℤ, OnOk, MatchOption};
+ghost use Rattle.std.specs.Prelude.{◌≡◌, ◌<ℤ◌, ◌&&◌, ◌||◌, not, [], ◌∷◌, ℤ, OnOk, MatchOption};
 ghost use Rattle.region.specs.Columns.{has_column};
 ghost use Rattle.region.specs.InnerColumns.{IsColumns};
 ghost use Rattle.region.specs.InnerCursor.{AreInBand, in_columns};
@@ -20,7 +20,28 @@ fn past<'a>(band: &'a [Rect], place: &i32) -> &'a [Rect]
     band.split_at(count_until(band, Edge::Right, place)).1
 }
 
+/// Adds the columns of a band that a rectangle has.
+#[inline(never)]
+pub fn add_within(row: &mut SpanList, band: &[Rect], bounds: &Rect) -> Result<(), AllocError>
+    requires band { AreInBand band.now }
+    requires across { bounds.now.left <ℤ bounds.now.right }
+    requires nothing { row.old.spans.items ≡ [] }
+    ensures columns { OnOk result (IsColumns (span_steps row.new.spans.items)) }
+    ensures points { OnOk result ((x : ℤ) → has_column (span_steps row.new.spans.items) x ≡ (in_columns x band.now && in_columns x (bounds.now ∷ []))) }
+{
+    let mut rest = past(band, &bounds.left);
+    while let [rect, ..] = rest {
+        if bounds.right <= rect.left {
+            break;
+        }
+        row.add(rect.left.max(bounds.left), rect.right.min(bounds.right))?;
+        rest = rest.split_at(1).1;
+    }
+    Ok(())
+}
+
 /// Adds the columns that both bands have.
+#[inline(never)]
 pub fn add_common(row: &mut SpanList, left: &[Rect], right: &[Rect]) -> Result<(), AllocError>
     requires left { AreInBand left.now }
     requires right { AreInBand right.now }
@@ -28,6 +49,9 @@ pub fn add_common(row: &mut SpanList, left: &[Rect], right: &[Rect]) -> Result<(
     ensures columns { OnOk result (IsColumns (span_steps row.new.spans.items)) }
     ensures points { OnOk result ((x : ℤ) → has_column (span_steps row.new.spans.items) x ≡ (in_columns x left.now && in_columns x right.now)) }
 {
+    if let [only] = right {
+        return add_within(row, left, only);
+    }
     let mut a = left;
     let mut b = right;
     while let ([first, ..], [second, ..]) = (a, b) {
@@ -52,6 +76,7 @@ fn end_before(rect: &Rect, band: &[Rect]) -> (i32, i32)
 }
 
 /// Adds the columns of one band that another does not have.
+#[inline(never)]
 pub fn add_others(row: &mut SpanList, left: &[Rect], right: &[Rect]) -> Result<(), AllocError>
     requires left { AreInBand left.now }
     requires right { AreInBand right.now }
@@ -92,6 +117,7 @@ fn leftmost<'a>(a: &'a [Rect], b: &'a [Rect]) -> Option<(&'a Rect, &'a [Rect], &
 }
 
 /// Adds the columns that either band has.
+#[inline(never)]
 pub fn add_either(row: &mut SpanList, left: &[Rect], right: &[Rect]) -> Result<(), AllocError>
     requires left { AreInBand left.now }
     requires right { AreInBand right.now }

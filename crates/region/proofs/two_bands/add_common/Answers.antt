@@ -1,9 +1,21 @@
-use Rattle.std.proofs.Common.{◌≡◌, ◌≤◌, arith, rules, get_or, length, to_z, of_z, w32}
+use Rattle.std.proofs.Common.{◌≡◌, ◌∙◌, ◌≤◌, ◌&&◌, ap, sym, arith, rules, get_or, length, to_z, of_z, w32}
 use Rattle.std.specs.Int.{int_min, int_max}
 use Rattle.std.proofs.lemmas.Int.{ints, clamps, to_z-of_z}
 use Rattle.geom_base.specs.Points.{no_rect}
+use Rattle.region.specs.InnerCursor.{in_columns}
+use Rattle.region.proofs.BoundsLemmas.{single}
+use Rattle.region.proofs.UniqueLemmas.{on_ok_also}
 use Rattle.region.proofs.RowLemmas.{meeting_starts, meeting_row, meeting_next, meeting_fewer, meeting_ends}
 use Rattle.region.proofs.two_bands.add_common.Goals as goal
+
+pub add_within-requires-clause-across : goal.add_within-requires-clause-across
+add_within-requires-clause-across c = c.requires.right.columns 0 no_rect (omega (arith, c.in-len1.len_at_least))
+
+pub returns-in-len1-clause-points : goal.returns-in-len1-clause-points
+returns-in-len1-clause-points c =
+    let only = single c.args.right.now no_rect c.in-len1.len_at_least c.in-len1.len_below in
+    on_ok_also _ _ c.add_within.result (λ points x. points x ∙ ap (λ l. in_columns x c.args.left.now && in_columns x l) (sym only))
+    c.add_within.ensures.points
 
 pub loop-a-init : goal.loop-a-init
 loop-a-init c = meeting_starts c.args.left.now c.args.right.now c.args.row.now.spans.items c.requires.left c.requires.right c.requires.nothing
