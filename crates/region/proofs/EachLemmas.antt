@@ -13,13 +13,3 @@ each_next {X} f old items i d lt e = ap (λ l. slice_set l i (f (slice_index_or 
     step [] i lt = absurd (omega (arith, lt))
     step (r ∷ old) zero lt = refl
     step (r ∷ old) (suc i) lt = ap (λ l. f r ∷ l) (step old i (omega (arith, lt)))
-
--- those that are left are as they were
-pub each_left : {X : Type 0} (f : X → X) (old items : List X) (i : ℕ) (d : X) → i < length old → items ≡ map f (take i old) ++ drop i old →
-    slice_index_or items i d ≡ slice_index_or old i d
-each_left {X} f old items i d lt e = ap (λ l. slice_index_or l i d) e ∙ step old i lt
-  where
-    step : (old : List X) (i : ℕ) → i < length old → slice_index_or (map f (take i old) ++ drop i old) i d ≡ slice_index_or old i d
-    step [] i lt = absurd (omega (arith, lt))
-    step (r ∷ old) zero lt = refl
-    step (r ∷ old) (suc i) lt = step old i (omega (arith, lt))

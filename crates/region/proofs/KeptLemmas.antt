@@ -1,7 +1,6 @@
 -- Bands whose rectangles are counted and kept.
 use Rattle.std.proofs.Common.{◌≡◌, ◌∙◌, ℕ, ℤ, ◌+◌, ◌≤◌, List, [], ◌∷◌, ◌++◌, map, length, take, drop, pos, Bool, refl, ap, sym, subst, arith}
-use Rattle.std.proofs.Common.{length-append, append-nil, append_assoc, take-append-drop, add-one, suc, zero, ◌<◌, ◌^◌, FitsSigned, w32}
-use Rattle.std.specs.Prelude.{slice_set, slice_index_or}
+use Rattle.std.proofs.Common.{length-append, append-nil, append_assoc, take-append-drop, ◌<◌, ◌^◌, FitsSigned, w32}
 use Rattle.geom_base.specs.declared.point.Point.{Point}
 use Rattle.geom_base.specs.declared.rect.Rect.{Rect}
 use Rattle.region.specs.declared.span.Span.{Span}

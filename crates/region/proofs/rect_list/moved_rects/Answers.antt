@@ -1,6 +1,5 @@
 use Rattle.std.proofs.Common.{◌∙◌, ◌<◌, ap, subst, length}
-use Rattle.std.specs.Prelude.{slice_set, slice_index_or}
-use Rattle.geom_base.specs.declared.rect.Rect.{Rect}
+use Rattle.std.specs.Prelude.{slice_set}
 use Rattle.geom_base.specs.Points.{moved_rect, no_rect}
 use Rattle.region.proofs.EachLemmas.{each_next}
 use Rattle.region.proofs.rect_list.moved_rects.Goals as goal

@@ -1,11 +1,11 @@
 use Rattle.std.proofs.Common.{◌≡◌, ◌∙◌, ◌≤◌, ◌&&◌, ap, sym, arith, rules, get_or, length, to_z, of_z, w32}
 use Rattle.std.specs.Int.{int_min, int_max}
-use Rattle.std.proofs.lemmas.Int.{ints, clamps, to_z-of_z}
+use Rattle.std.proofs.lemmas.Int.{to_z-of_z}
 use Rattle.geom_base.specs.Points.{no_rect}
 use Rattle.region.specs.InnerCursor.{in_columns}
 use Rattle.region.proofs.BoundsLemmas.{single}
 use Rattle.region.proofs.UniqueLemmas.{on_ok_also}
-use Rattle.region.proofs.RowLemmas.{meeting_starts, meeting_row, meeting_next, meeting_fewer, meeting_ends}
+use Rattle.region.proofs.RowLemmas.{meeting_starts, meeting_row, meeting_next, meeting_fewer}
 use Rattle.region.proofs.two_bands.add_common.Goals as goal
 
 pub add_within-requires-clause-across : goal.add_within-requires-clause-across

@@ -1,9 +1,8 @@
-use Rattle.std.proofs.Common.{◌≡◌, ◌<ℤ◌, ◌≤ℤ◌, ◌&&◌, [], ◌∷◌, ℤ, Bool, arith, get_or, to_z, of_z, w32}
+use Rattle.std.proofs.Common.{◌≡◌, ◌<ℤ◌, ◌≤ℤ◌, arith, get_or, to_z, of_z, w32}
 use Rattle.std.specs.Int.{int_min, int_max}
 use Rattle.std.proofs.lemmas.Int.{ints, to_z-of_z}
 use Rattle.geom_base.specs.Points.{no_rect}
-use Rattle.region.specs.InnerCursor.{in_columns}
-use Rattle.region.proofs.RowLemmas.{cutting_starts, cutting_row, cutting_next, cutting_stops, cutting_ends}
+use Rattle.region.proofs.RowLemmas.{cutting_starts, cutting_row, cutting_next, cutting_stops}
 use Rattle.region.proofs.two_bands.add_within.Goals as goal
 
 pub loop-rest-init : goal.loop-rest-init

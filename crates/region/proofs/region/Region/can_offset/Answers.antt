@@ -1,4 +1,4 @@
-use Rattle.std.proofs.Common.{◌≡◌, ◌∙◌, ◌↔◌, ◌-ℤ◌, pos, negsuc, refl, sym, subst, arith, map, List, get_or}
+use Rattle.std.proofs.Common.{◌∙◌, ◌↔◌, ◌-ℤ◌, pos, negsuc, refl, sym, subst, arith, map, List, get_or}
 use Rattle.std.specs.List.{All}
 use Rattle.std.proofs.lemmas.Int.{ints}
 use Rattle.std.proofs.lemmas.Bool.{false≢true}

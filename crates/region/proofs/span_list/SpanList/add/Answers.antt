@@ -1,4 +1,4 @@
-use Rattle.std.proofs.Common.{◌≡◌, ◌∙◌, ◌++◌, ◌∷◌, [], ◌||◌, ◌&&◌, ◌<ℤ◌, ap, sym, subst, arith, rules, SFits, w32, to_z, of_z, int_le, int_lt}
+use Rattle.std.proofs.Common.{◌≡◌, ◌∙◌, ◌++◌, ◌∷◌, [], ◌<ℤ◌, ap, sym, subst, arith, rules, SFits, w32, to_z, of_z}
 use Rattle.std.proofs.lemmas.Int.{ints, to_z-of_z}
 use Rattle.region.specs.Columns.{has_column}
 use Rattle.region.specs.InnerSpanList.{span_steps}
