@@ -1,1 +1,2 @@
 mod RectLemmas
+mod DrawnLemmas

@@ -5,3 +5,4 @@ pub mod Grid
 pub mod GridLaws
 pub mod Step
 pub mod StepLaws
+pub mod Drawn

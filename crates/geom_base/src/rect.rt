@@ -1,6 +1,6 @@
-ghost use Rattle.std.specs.Prelude.{◌≡◌, ◌≤◌, pos, ◌+ℤ◌, ◌≤ℤ◌, ◌<ℤ◌, ◌↔◌, IsTrue, FitsSigned};
+ghost use Rattle.std.specs.Prelude.{◌≡◌, ◌≤◌, pos, ◌+ℤ◌, ◌-ℤ◌, ◌≤ℤ◌, ◌<ℤ◌, ◌↔◌, IsTrue, FitsSigned};
 ghost use Rattle.std.specs.Int.{w32};
-ghost use Rattle.geom_base.specs.Points.{HasPoints, IsIn, LiesIn, Meet, has_points, moved, no_rect, moved_rect, most_side, whole};
+ghost use Rattle.geom_base.specs.Points.{HasPoints, IsIn, LiesIn, Meet, has_points, moved, no_rect, moved_rect, most_side, whole, sides_of, corner_of};
 ghost use Rattle.geom_base.specs.declared.point.Point.{Point};
 
 use crate::point::Point;
@@ -89,12 +89,42 @@ impl Rect {
         }
     }
 
+    /// How many columns and rows it has.
+    pub fn size(self) -> Size
+        requires across { self.left ≤ℤ self.right }
+        requires down { self.top ≤ℤ self.bottom }
+        ensures { result ≡ sides_of self }
+    {
+        Size {
+            w: distance(self.left, self.right),
+            h: distance(self.top, self.bottom),
+        }
+    }
+
+    /// Its first point.
+    pub fn corner(self) -> Point
+        ensures { result ≡ corner_of self }
+    {
+        Point {
+            x: self.left,
+            y: self.top,
+        }
+    }
+
     /// Whether a point is in the rectangle.
     pub fn holds(self, p: Point) -> bool
         ensures { IsTrue result ↔ IsIn p self }
     {
         is_within(self.left, p.x, self.right) && is_within(self.top, p.y, self.bottom)
     }
+}
+
+/// How many columns, or rows, lie from one to before another.
+pub fn distance(from: i32, to: i32) -> u32
+    requires { from ≤ℤ to }
+    ensures { pos result ≡ to -ℤ from }
+{
+    (i64::from(to) - i64::from(from)) as u32
 }
 
 /// Whether a coordinate lies from one edge to before another.

@@ -1,10 +1,11 @@
 //! Bytes and values side by side.
 
-ghost use Rattle.std.specs.Prelude.{◌≤◌, ◌<◌, ◌+◌, ◌^◌, All, length};
+ghost use Rattle.std.specs.Prelude.{◌≡◌, ◌≤◌, ◌<◌, ◌+◌, ◌^◌, All, length};
 ghost use Rattle.pix_format.specs.Value.{bits_of};
+ghost use Rattle.surf_obj.specs.Layout.{row_bytes};
 
 use super::*;
-use geom_base::{Point, Size};
+use geom_base::{Point, Rect, Size};
 use pix_format::Format;
 use std::process::Abort;
 use std::test::Fail;
@@ -28,6 +29,16 @@ const THREE: Size = Size { w: 3, h: 1 };
 const DRAWN: [u8; 24] = [
     1, 0, 0, 2, 0, 0, 0, 0, 0, 0, 0, 0, 0, 0, 0, 5, 0, 0, 3, 2, 1, 0, 0, 0,
 ];
+
+const FOUR: Size = Size { w: 4, h: 3 };
+
+/// The two middle columns of the lower two rows of those.
+const MIDDLE: Rect = Rect {
+    left: 1,
+    top: 1,
+    right: 3,
+    bottom: 3,
+};
 
 /// Reads three pixels of a row that takes all the bytes.
 fn reads(rt: &impl Abort, format: Format, bytes: &[u8], want: [u32; 3])
@@ -266,4 +277,93 @@ fn runs_move_within_a_row(rt: HostRuntime) {
     surface.move_row(Point { x: 2, y: 0 }, 5, ORIGIN);
     surface.move_row(ORIGIN, 3, Point { x: 4, y: 0 });
     assert_eq!(rt; bytes, [3, 4, 5, 2, 3, 4, 5, 8, 9, 10, 11]);
+}
+
+/// Writes the middle of a surface of equal bytes, in both directions: the two rows then have these bytes, all others are as before,
+/// and what is read is what was written.
+fn middle(rt: &impl Abort, format: Format, values: [u32; 4], one: &[u8], two: &[u8])
+    requires fits { All (λ v. v < 2 ^ bits_of format) values }
+    requires same { length two.now ≡ length one.now }
+    requires wide { row_bytes format 4 ≤ length one.now }
+    requires short { length one.now ≤ 17 }
+{
+    let stride = one.len();
+    for bottom_up in [false, true] {
+        let layout = Layout::new(FOUR, format, stride as u32, bottom_up);
+        let mut bytes = [0x5au8; 51];
+        write_rect_on(&mut bytes, layout, &MIDDLE, &values);
+        let (lower, upper) = if bottom_up {
+            (0, 2 * stride)
+        } else {
+            (2 * stride, 0)
+        };
+        assert_eq!(rt; &bytes[stride..2 * stride], one, "{format:?}");
+        assert_eq!(rt; &bytes[lower..lower + stride], two, "{format:?}");
+        assert!(rt;
+            bytes[upper..upper + stride]
+                .iter()
+                .all(|byte| *byte == 0x5a)
+        );
+        assert!(rt; bytes[3 * stride..].iter().all(|byte| *byte == 0x5a));
+        let mut read = [0u32; 4];
+        read_rect_on(&bytes, layout, &MIDDLE, &mut read);
+        assert_eq!(rt; read, values, "{format:?}");
+    }
+}
+
+#[test]
+fn a_rectangle_is_its_values_row_by_row(rt: HostRuntime) {
+    middle(&rt, Format::B1, [0, 1, 0, 0], &[0x3a, 0x5a], &[0x1a, 0x5a]);
+    middle(
+        &rt,
+        Format::B4,
+        [1, 2, 15, 0],
+        &[0x51, 0x2a, 0x5a],
+        &[0x5f, 0x0a, 0x5a],
+    );
+    let one = [0x5a, 1, 0xff, 0x5a, 0x5a];
+    let two = [0x5a, 0x80, 7, 0x5a, 0x5a];
+    middle(&rt, Format::B8, [1, 0xff, 0x80, 7], &one, &two);
+    let one = [0x5a, 0x5a, 0x34, 0x12, 0, 0x80, 0x5a, 0x5a, 0x5a];
+    let two = [0x5a, 0x5a, 1, 0, 0xff, 0x7f, 0x5a, 0x5a, 0x5a];
+    middle(&rt, Format::B555, [0x1234, 0x8000, 1, 0x7fff], &one, &two);
+    let one = [0x5a, 0x5a, 0, 0xf8, 0xe0, 7, 0x5a, 0x5a, 0x5a];
+    let two = [0x5a, 0x5a, 0x1f, 0, 0xff, 0xff, 0x5a, 0x5a, 0x5a];
+    middle(
+        &rt,
+        Format::B565,
+        [0xf800, 0x07e0, 0x1f, 0xffff],
+        &one,
+        &two,
+    );
+}
+
+#[test]
+fn a_rectangle_of_wide_pixels_is_its_values(rt: HostRuntime) {
+    let one = [
+        0x5a, 0x5a, 0x5a, 0x33, 0x22, 0x11, 0xff, 0, 0, 0x5a, 0x5a, 0x5a, 0x5a,
+    ];
+    let two = [
+        0x5a, 0x5a, 0x5a, 0, 0, 0xff, 3, 2, 1, 0x5a, 0x5a, 0x5a, 0x5a,
+    ];
+    middle(
+        &rt,
+        Format::B24,
+        [0x112233, 0xff, 0xff0000, 0x010203],
+        &one,
+        &two,
+    );
+    let one = [
+        0x5a, 0x5a, 0x5a, 0x5a, 0x78, 0x56, 0x34, 0x12, 0, 0, 0, 0x80, 0x5a, 0x5a, 0x5a, 0x5a, 0x5a,
+    ];
+    let two = [
+        0x5a, 0x5a, 0x5a, 0x5a, 1, 0, 0, 0, 0xfc, 0xfd, 0xfe, 0xff, 0x5a, 0x5a, 0x5a, 0x5a, 0x5a,
+    ];
+    middle(
+        &rt,
+        Format::B32,
+        [0x12345678, 0x80000000, 1, 0xfffefdfc],
+        &one,
+        &two,
+    );
 }
