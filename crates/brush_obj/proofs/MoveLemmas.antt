@@ -1,12 +1,16 @@
--- A call that is moved with its target gives each moved point what it gave the point.
-use Rattle.std.proofs.Common.{◌≡◌, ℤ, ◌+ℤ◌, ◌-ℤ◌, refl, arith}
+-- Calls on targets that are moved, and with sources that are lent.
+use Rattle.std.proofs.Common.{◌≡◌, ℕ, ℤ, ◌+ℤ◌, ◌-ℤ◌, ◌∙◌, Bool, true, false, IsTrue, Option, if◌then◌else◌, refl, sym, arith}
 use Rattle.std.proofs.lemmas.Int.{ints}
 use Rattle.geom_base.specs.declared.point.Point.{Point}
 use Rattle.geom_base.specs.declared.rect.Rect.{Rect}
-use Rattle.geom_base.specs.Points.{moved, moved_rect}
+use Rattle.geom_base.specs.Points.{moved, moved_back, moved_rect}
+use Rattle.geom_base.specs.Step.{value_after}
+use Rattle.pix_format.specs.Value.{bits_of}
 use Rattle.rop_mix.specs.Needs as X
-use Rattle.brush_obj.specs.Calls.{CallsMove, point_across}
+use Rattle.rop_mix.specs.Rop.{rop4_of}
+use Rattle.brush_obj.specs.Calls.{CallsLend, CallsMove, Operands, new_of_blt, operand, point_across}
 use Rattle.brush_obj.specs.Wrapping.{from_origin}
+use Rattle.brush_obj.specs.declared.blt_call.BltCall.{BltCall}
 use Rattle.brush_obj.specs.declared.draw_call.DrawCall.TheVariants.{Blt, Copy, Paint}
 
 apart : (a b n : ℤ) → (a +ℤ n) -ℤ (b +ℤ n) ≡ a -ℤ b
@@ -23,3 +27,37 @@ unfolding X.mask_needed X.pattern_needed
 moves (Blt c) o by p d = rw (across c.rect c.src p by, across c.rect c.mask p by, counted c.origin p by) refl
 moves (Copy c) o by p d = rw (across c.rect c.src p by) refl
 moves (Paint c) o by p d = rw (counted c.origin p by) refl
+
+-- a source that begins at a point
+lent_across : (rect : Rect) (src at p : Point) → point_across rect (moved_back at src) p ≡ moved_back at (point_across rect src p)
+lent_across rect src at p = rw (minus (p.x -ℤ rect.left) src.x at.x, minus (p.y -ℤ rect.top) src.y at.y) refl
+  where
+    minus : (a b c : ℤ) → a +ℤ (b -ℤ c) ≡ (a +ℤ b) -ℤ c
+    minus a b c = omega (arith, ints)
+
+same_operand : (needed : Bool) (a b : Option ℕ) → (IsTrue needed → a ≡ b) → operand needed a ≡ operand needed b
+same_operand true a b h = h refl
+same_operand false a b h = refl
+
+pub lends : CallsLend
+unfolding X.mask_needed X.pattern_needed
+lends (Blt c) at o lent p d h =
+    let source : operand (X.source_needed c.rop.code) (lent.source (point_across c.rect (moved_back at c.src) p)) ≡
+    operand (X.source_needed c.rop.code) (o.source (point_across c.rect c.src p)) =
+    rw (lent_across c.rect c.src at p) (same_operand (X.source_needed c.rop.code) (lent.source (moved_back at (point_across c.rect c.src p))) (o.source (point_across c.rect c.src p)) h.source) in
+    rw (source, h.mask, h.pattern, h.format) refl
+lends (Copy c) at o lent p d h =
+    let source : lent.source (point_across c.rect (moved_back at c.src) p) ≡ o.source (point_across c.rect c.src p) =
+    rw (lent_across c.rect c.src at p) (h.source refl) in
+    rw (source, h.format) refl
+lends (Paint c) at o lent p d h = rw (h.pattern, h.format) refl
+
+-- a raster operation that needs neither source nor mask nor old value
+pub blt_ignores : (c : BltCall) (target source mask : Bool) →
+    (target ≡ false → (m : Bool) (p s d e bits : ℕ) → rop4_of c.rop.code m p s d bits ≡ rop4_of c.rop.code m p s e bits) →
+    source ≡ X.source_needed c.rop.code → mask ≡ X.mask_needed c.rop.code → target ≡ false → source ≡ false → mask ≡ false →
+    (o : Operands) (p : Point) (d e : ℕ) → value_after (new_of_blt c o) p d ≡ value_after (new_of_blt c o) p e
+blt_ignores c target source mask spared s m t no_source no_mask o p d e =
+    let one : X.source_needed c.rop.code ≡ false = sym s ∙ no_source in
+    let two : X.mask_needed c.rop.code ≡ false = sym m ∙ no_mask in
+    rw (one, two) (spared t false (if X.pattern_needed c.rop.code then o.pattern (from_origin c.origin p) else 0) 0 d e (bits_of o.format))

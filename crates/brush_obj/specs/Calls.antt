@@ -1,18 +1,18 @@
 -- One drawing call on one surface: which points it reaches, and the new value of each, from the values before the call alone.
-use Rattle.std.specs.Prelude.{◌≡◌, ◌+ℤ◌, FitsSigned, IfSome, ℕ, pos, ◌-ℤ◌, List, Option, None, Some, Bool, false, if◌then◌else◌, ◌==◌, option_map}
+use Rattle.std.specs.Prelude.{◌≡◌, ◌+ℤ◌, FitsSigned, IfSome, IsTrue, ℕ, pos, ◌-ℤ◌, List, Option, None, Some, Bool, true, false, if◌then◌else◌, ◌==◌, option_map}
 use Rattle.std.specs.Int.{w32}
 use Rattle.geom_base.specs.declared.point.Point.{Point}
 use Rattle.geom_base.specs.declared.rect.Rect.{Rect}
 use Rattle.geom_base.specs.declared.size.Size.{Size}
 use Rattle.geom_base.specs.declared.target.Target.{Target}
-use Rattle.geom_base.specs.Points.{is_in, moved, moved_rect, whole}
+use Rattle.geom_base.specs.Points.{is_in, moved, moved_back, moved_rect, whole}
 use Rattle.pix_format.specs.declared.format.Format.{Format}
 use Rattle.pix_format.specs.Value.{bits_of}
 use Rattle.pix_format.specs.Xlate.{Translation, translated}
 use Rattle.rop_mix.specs.Mixes.{mix_of}
 use Rattle.rop_mix.specs.Needs.{source_needed, pattern_needed, mask_needed}
 use Rattle.rop_mix.specs.Rop.{rop4_of}
-use Rattle.geom_base.specs.Step.{Area, Change}
+use Rattle.geom_base.specs.Step.{Area, Change, value_after}
 use Rattle.geom_base.specs.Grid.{value_of_point}
 use Rattle.brush_obj.specs.declared.blt_call.BltCall.{BltCall}
 use Rattle.brush_obj.specs.declared.copy_call.CopyCall.{CopyCall}
@@ -146,6 +146,10 @@ pub record PointMoves (p by : Point) : Type 0 where
   pub across : FitsSigned w32 (p.x +ℤ by.x)
   pub down : FitsSigned w32 (p.y +ℤ by.y)
 
+pub record PointMovesBack (p by : Point) : Type 0 where
+  pub across : FitsSigned w32 (p.x -ℤ by.x)
+  pub down : FitsSigned w32 (p.y -ℤ by.y)
+
 pub record RectMoves (r : Rect) (by : Point) : Type 0 where
   pub left : FitsSigned w32 (r.left +ℤ by.x)
   pub top : FitsSigned w32 (r.top +ℤ by.y)
@@ -175,3 +179,40 @@ moved_call (Paint c) by = Paint (moved_paint c by)
 -- a moved call gives each moved point what the call gave the point
 abbrev pub CallsMove : Type 0
 CallsMove = (c : DrawCall) (o : Operands) (by p : Point) (d : ℕ) → new_of_call (moved_call c by) o (moved p by) d ≡ new_of_call c o p d
+
+-- whether any call reads its source, and the source's point for its rectangle's corner
+abbrev pub reads_source : DrawCall → Bool
+reads_source (Blt c) = source_needed c.rop.code
+reads_source (Copy c) = true
+reads_source (Paint c) = false
+
+abbrev pub src_of : DrawCall → Point
+src_of (Blt c) = c.src
+src_of (Copy c) = c.src
+src_of (Paint c) = record { x = pos 0; y = pos 0 }
+
+-- the source's point for a point of the target
+abbrev pub source_point : DrawCall → Point → Point
+source_point c p = point_across (rect_of c) (src_of c) p
+
+-- any call whose source is lent, and begins at a point of what was its source
+abbrev pub lent_call : DrawCall → Point → DrawCall
+lent_call (Blt c) at = Blt (record c { held = None; src = moved_back at c.src })
+lent_call (Copy c) at = Copy (record c { held = None; src = moved_back at c.src })
+lent_call (Paint c) at = Paint c
+
+-- operands that are the same, but for sources that begin at points of their own
+pub record SameButSource (call : DrawCall) (at : Point) (o lent : Operands) (p : Point) : Type 0 where
+  pub source : IsTrue (reads_source call) → lent.source (moved_back at (source_point call p)) ≡ o.source (source_point call p)
+  pub mask : lent.mask ≡ o.mask
+  pub pattern : lent.pattern ≡ o.pattern
+  pub format : lent.format ≡ o.format
+
+-- a call whose source is lent gives a point what it gave it
+abbrev pub CallsLend : Type 0
+CallsLend = (c : DrawCall) (at : Point) (o lent : Operands) (p : Point) (d : ℕ) → SameButSource c at o lent p →
+    new_of_call (lent_call c at) lent p d ≡ new_of_call c o p d
+
+-- what a call gives a point is the same whatever the point had
+abbrev pub IgnoresTarget : DrawCall → Type 0
+IgnoresTarget c = (o : Operands) (p : Point) (d e : ℕ) → value_after (new_of_call c o) p d ≡ value_after (new_of_call c o) p e

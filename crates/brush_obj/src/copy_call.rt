@@ -19,7 +19,7 @@ pub struct CopyCall {
 }
 
 /// The point 0 0.
-const ZERO: Point = Point { x: 0, y: 0 };
+pub const ZERO: Point = Point { x: 0, y: 0 };
 
 impl CopyCall {
     ghost use Rattle.brush_obj.specs.Calls.{RectMoves, moved_copy, Operands, blt_of, new_of_blt, new_of_copy, point_across};

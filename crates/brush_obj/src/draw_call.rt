@@ -1,12 +1,14 @@
 //! Any drawing call.
 
-ghost use Rattle.std.specs.Prelude.{◌≡◌};
-ghost use Rattle.brush_obj.specs.Calls.{CallsMove};
+ghost use Rattle.std.specs.Prelude.{◌≡◌, false};
+ghost use Rattle.brush_obj.specs.Calls.{CallsLend, CallsMove};
 
 use crate::blt_call::BltCall;
-use crate::copy_call::CopyCall;
+use crate::copy_call::{CopyCall, ZERO};
 use crate::paint_call::PaintCall;
+use crate::shifting::shifted_back;
 use geom_base::{Point, Rect, Target};
+use rop_mix::needs_source;
 
 /// One call that draws on a surface.
 #[derive(Clone, Copy, Debug, PartialEq, Eq)]
@@ -17,7 +19,7 @@ pub enum DrawCall {
 }
 
 impl DrawCall {
-    ghost use Rattle.brush_obj.specs.Calls.{CallMoves, held_of, moved_call, rect_of, target_of};
+    ghost use Rattle.brush_obj.specs.Calls.{CallMoves, IgnoresTarget, PointMovesBack, held_of, lent_call, moved_call, reads_source, rect_of, src_of, target_of};
 
     /// The target that it draws on.
     pub fn target(&self) -> Target
@@ -53,6 +55,59 @@ impl DrawCall {
         }
     }
 
+    /// Whether it reads its source.
+    pub fn reads_source(&self) -> bool
+        ensures { result ≡ reads_source self.now }
+    {
+        match self {
+            DrawCall::Blt(call) => needs_source(call.rop),
+            DrawCall::Copy(_) => true,
+            DrawCall::Paint(_) => false,
+        }
+    }
+
+    /// Whether what a point gets may depend on what it had: where its old value counts, or a point of source or mask may be wanting.
+    pub fn reads_target(&self) -> bool
+        ensures { result ≡ false → IgnoresTarget self.now }
+    {
+        match self {
+            DrawCall::Blt(call) => call.reads_target(),
+            DrawCall::Copy(_) => true,
+            DrawCall::Paint(call) => call.reads_target(),
+        }
+    }
+
+    /// The source's point for the corner of its rectangle; 0 0 where it has no source.
+    pub fn src(&self) -> Point
+        ensures { result ≡ src_of self.now }
+    {
+        match self {
+            DrawCall::Blt(call) => call.src,
+            DrawCall::Copy(call) => call.src,
+            DrawCall::Paint(_) => ZERO,
+        }
+    }
+
+    /// The call with a source that is lent, and begins at a point of what was its source.
+    pub fn lent_from(&self, at: Point) -> DrawCall
+        requires { PointMovesBack (src_of self.now) at }
+        ensures { result ≡ lent_call self.now at }
+    {
+        match self {
+            DrawCall::Blt(call) => DrawCall::Blt(BltCall {
+                held: None,
+                src: shifted_back(call.src, at),
+                ..*call
+            }),
+            DrawCall::Copy(call) => DrawCall::Copy(CopyCall {
+                held: None,
+                src: shifted_back(call.src, at),
+                ..*call
+            }),
+            DrawCall::Paint(call) => DrawCall::Paint(*call),
+        }
+    }
+
     /// The rectangle whose points it reaches.
     pub fn rect(&self) -> Rect
         ensures { result ≡ rect_of self.now }
@@ -65,7 +120,9 @@ impl DrawCall {
     }
 }
 
-/// A call that is moved with its target gives each moved point what it gave the point.
+/// A call that is moved with its target gives each moved point what it gave the point, and one whose source is lent from a point on gives
+/// each point the same.
 pub fn calls_move()
-    ensures { CallsMove }
+    ensures moved { CallsMove }
+    ensures lent { CallsLend }
 {}

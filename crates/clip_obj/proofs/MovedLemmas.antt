@@ -8,8 +8,8 @@ use Rattle.std.proofs.lemmas.List.{length-take-le, length-map, get_or-append-add
 use Rattle.std.proofs.lemmas.List.Elements.{All-map}
 use Rattle.geom_base.specs.declared.point.Point.{Point}
 use Rattle.geom_base.specs.declared.rect.Rect.{Rect}
-use Rattle.geom_base.specs.Points.{is_in, moved, moved_rect}
-use Rattle.region.specs.Region.{IsRegionOf}
+use Rattle.geom_base.specs.Points.{is_in, is_in_some, moved, moved_rect}
+use Rattle.region.specs.Region.{IsRegion, IsRegionOf}
 use Rattle.region.specs.Moved.{CanMove, moved_back, RegionMoves}
 use Rattle.clip_obj.specs.Clip.{allows, to_origin, LiesWithin}
 
@@ -93,3 +93,9 @@ items_moved f rects now new n long same e =
     let moved : new ≡ map f rects = e ∙ ap (map f) same in
     let width : length new ≡ n = ap length moved ∙ length-map rects f ∙ long in
     rw (drop_all (length new) rects (omega (arith, width, long)), append-nil new) (take_all n new (omega (arith, width)) ∙ moved)
+
+-- the list of a region, moved, is one
+pub list_seen : RegionMoves → (rects moved_rects : List Rect) (at : Point) → moved_rects ≡ map (λ r. moved_rect r (to_origin at)) rects → IsRegion rects →
+    IsRegion moved_rects
+list_seen law rects moved_rects at e h =
+    subst IsRegion (sym e) (law (λ p. is_in_some p rects) rects (to_origin at) (record { canonical = h; points = λ p. refl })).canonical

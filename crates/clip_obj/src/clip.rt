@@ -1,9 +1,9 @@
 //! The clip of a call.
 
-ghost use Rattle.std.specs.Prelude.{◌≡◌, ◌<◌, ◌++◌, ◌↔◌, IsTrue, IfOk, length, min, take, drop, All};
+ghost use Rattle.std.specs.Prelude.{◌≡◌, ◌<◌, ◌++◌, ◌↔◌, IsTrue, IfOk, length, map, min, take, drop, All};
 ghost use Rattle.std.specs.List.{AllPairs};
 ghost use Rattle.std.specs.List.Sorted.{IsPermutation};
-ghost use Rattle.geom_base.specs.Points.{AreApart, moved_rect};
+ghost use Rattle.geom_base.specs.Points.{AreApart, HasPoints, moved_rect};
 ghost use Rattle.region.specs.Region.{IsRegion};
 ghost use Rattle.region.specs.Order.{IsInOrder};
 ghost use Rattle.region.specs.Moved.{CanMove};
@@ -94,6 +94,23 @@ impl ClipObj {
         Ok(ClipObj::begun(seen_from(&at, &bounds), rects))
     }
 
+    /// The same rectangles in other bounds that have them all, seen from a point, which is 0 0 there; nothing was handed out.
+    ///
+    /// # Errors
+    ///
+    /// `AllocError` for want of memory.
+    pub fn seen_from(&self, alloc: Global, bounds: Rect, at: Point) -> Result<ClipObj, AllocError>
+        requires within { All (LiesWithin bounds) self.now.rects }
+        requires moves { CanMove (to_origin at) bounds }
+        ensures bounds { IfOk result (λ c. c.bounds ≡ moved_rect bounds (to_origin at)) }
+        ensures rects { IfOk result (λ c. c.rects ≡ map (λ r. moved_rect r (to_origin at)) self.now.rects) }
+    {
+        let rects = Vec::from_slice(alloc, &self.rects)?;
+        regions_are_canonical();
+        let rects = all_seen_from(&at, rects);
+        Ok(ClipObj::begun(seen_from(&at, &bounds), rects))
+    }
+
     /// The clip of bounds and a region's rectangles within them, of which nothing was handed out.
     fn begun(bounds: Rect, rects: Vec<Rect>) -> ClipObj
         requires canonical { IsRegion rects.items }
@@ -123,6 +140,14 @@ impl ClipObj {
             return Complexity::Rect;
         }
         Complexity::Complex
+    }
+
+    /// Its rectangles, from top to bottom and in a band from left to right.
+    pub fn rects(&self) -> &[Rect]
+        ensures rects { result.now ≡ self.now.rects }
+        ensures points { All HasPoints result.now }
+    {
+        self.rects.as_slice()
     }
 
     /// The number of its rectangles.

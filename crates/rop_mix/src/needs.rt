@@ -2,7 +2,7 @@
 
 ghost use Rattle.std.specs.Prelude.{◌≡◌, ◌≢◌, ◌↔◌, ◌%◌, ◌/◌, IsTrue, Bool, false, ℕ};
 ghost use Rattle.rop_mix.specs.Rop.{rop4_of};
-ghost use Rattle.rop_mix.specs.Needs.{NeedsSource, NeedsPattern, EitherByte, source_changes, pattern_changes, source_needed, pattern_needed, mask_needed};
+ghost use Rattle.rop_mix.specs.Needs.{NeedsSource, NeedsPattern, EitherByte, source_changes, pattern_changes, target_changes, source_needed, pattern_needed, target_needed, mask_needed};
 
 use crate::rop4::Rop4;
 
@@ -22,6 +22,14 @@ pub fn needs_pattern(rop: Rop4) -> bool
     ensures spared { result ≡ false → (m : Bool) (p q s d bits : ℕ) → rop4_of rop.code m p s d bits ≡ rop4_of rop.code m q s d bits }
 {
     byte_needs_pattern(rop.code_where_set()) || byte_needs_pattern(rop.code_where_clear())
+}
+
+/// Whether some result of one of the bytes changes with the old value alone.
+pub fn needs_target(rop: Rop4) -> bool
+    ensures value { result ≡ target_needed rop.code }
+    ensures spared { result ≡ false → (m : Bool) (p s d e bits : ℕ) → rop4_of rop.code m p s d bits ≡ rop4_of rop.code m p s e bits }
+{
+    byte_needs_target(rop.code_where_set()) || byte_needs_target(rop.code_where_clear())
 }
 
 /// Whether the bytes differ.
@@ -45,4 +53,11 @@ fn byte_needs_pattern(code: u8) -> bool
     ensures { result ≡ pattern_changes code }
 {
     (code ^ (code >> 4)) & 0x0f != 0
+}
+
+/// Whether the results for old value 0 and old value 1 differ, one place apart in the code.
+fn byte_needs_target(code: u8) -> bool
+    ensures { result ≡ target_changes code }
+{
+    (code ^ (code >> 1)) & 0x55 != 0
 }
