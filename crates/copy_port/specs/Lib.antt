@@ -1,0 +1,5 @@
+pub mod Classes
+pub mod State
+pub mod Port
+pub mod Given
+pub mod Laws

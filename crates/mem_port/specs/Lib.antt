@@ -1,0 +1,4 @@
+pub mod Memory
+pub mod Port
+pub mod Rows
+pub mod Calls
