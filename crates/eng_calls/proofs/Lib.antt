@@ -2,3 +2,10 @@ pub mod HeartLemmas
 pub mod ShiftLemmas
 pub mod DrawLemmas
 pub mod CallLemmas
+pub mod BandLemmas
+pub mod TransferLemmas
+pub mod LentLemmas
+pub mod SuitLemmas
+pub mod HeldLemmas
+pub mod CopyStepLemmas
+pub mod ManagedLemmas

@@ -1,18 +1,19 @@
 -- What a drawing call is handed, as its operands.
-use Rattle.std.specs.Prelude.{ℕ, ◌≡◌, length, List, Option, Some, None, false}
+use Rattle.std.specs.Prelude.{ℕ, ◌≡◌, length, List, Option, Some, None, false, option_map}
 use Rattle.std.specs.Borrow.{Bor}
+use Rattle.std.specs.Option.{option_copied}
 use Rattle.geom_base.specs.declared.point.Point.{Point}
 use Rattle.geom_base.specs.declared.target.Target.{Target}
 use Rattle.pix_format.specs.declared.format.Format.{Format}
 use Rattle.pix_format.specs.declared.rgb.Rgb.{Rgb}
 use Rattle.pix_format.specs.Value.{colours_of}
 use Rattle.pix_format.specs.Xlate.{Translation}
-use Rattle.surf_obj.specs.declared.view.LentView.{LentView}
 use Rattle.brush_obj.specs.Brush.{tiled}
 use Rattle.brush_obj.specs.Calls.{Operands, as_kept, not_there}
 use Rattle.brush_obj.specs.Slots.{Brush}
 use Rattle.brush_obj.specs.declared.draw_call.DrawCall.{DrawCall}
 use Rattle.brush_obj.specs.declared.draw_call.DrawCall.TheVariants.{Blt, Copy, Paint}
+use Rattle.copy_port.specs.Given.{Given, picture_of_view}
 use Rattle.blt_kernel.specs.Handed.{TranslatesFrom, mask_of, source_of}
 use Rattle.eng_calls.specs.declared.inputs.Inputs.{Inputs}
 
@@ -54,3 +55,13 @@ abbrev pub Suits : DrawCall → Inputs → Format → Type 0
 Suits (Blt c) i format = Translates i c.held format × HasBrush i format
 Suits (Copy c) i format = Translates i c.held format
 Suits (Paint c) i format = HasBrush i format
+
+-- the same as a record of pictures and colours
+abbrev pub given_of : Inputs → Given
+given_of i = record {
+  source = option_map picture_of_view i.source;
+  mask = option_map picture_of_view i.mask;
+  xlate = option_copied i.xlate;
+  table = i.table.now;
+  brush = option_map (λ (b : Bor Brush). b.now.face) i.brush;
+}

@@ -29,7 +29,7 @@ pub fn eng_draw(
     bits: &mut [u8],
     layout: Layout,
     call: &DrawCall,
-    inputs: &Inputs<'_>,
+    inputs: &Inputs<'_, '_>,
     clip: &mut ClipObj,
 ) -> Result<(), AllocError>
     requires holds { Holds layout (length bits.old) }
@@ -52,7 +52,7 @@ fn draw_on(
     alloc: Global,
     dst: &mut LentSurf<'_>,
     call: &DrawCall,
-    inputs: &Inputs<'_>,
+    inputs: &Inputs<'_, '_>,
     clip: &mut ClipObj,
 ) -> Result<(), AllocError>
     requires inside { All (λ r. LiesIn r (size_of dst.old)) clip.old.rects }

@@ -6,19 +6,29 @@
 //! call. A trait `DrawsRect` stands for the calls, so that this is said and proved once.
 #![tactic(auto)]
 
+mod bands;
 mod blt;
+mod copies;
 mod copy;
 mod draw;
 mod draws;
+mod framed;
 mod inputs;
+mod managed;
+mod on_copy;
 mod order;
 mod paint;
+mod part;
+mod transfer;
 
 pub use blt::eng_bit_blt;
 pub use copy::eng_copy_bits;
 pub use draw::eng_draw;
 pub use draws::steps_are_one;
 pub use inputs::Inputs;
+pub use managed::{
+    eng_bit_blt_managed, eng_copy_bits_managed, eng_draw_managed, eng_paint_managed,
+};
 pub use order::shifts_are_in_order;
 pub use paint::eng_paint;
 
