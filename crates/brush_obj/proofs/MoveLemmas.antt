@@ -1,14 +1,14 @@
 -- Calls on targets that are moved, and with sources that are lent.
-use Rattle.std.proofs.Common.{◌≡◌, ℕ, ℤ, ◌+ℤ◌, ◌-ℤ◌, ◌∙◌, Bool, true, false, IsTrue, Option, if◌then◌else◌, refl, sym, arith}
+use Rattle.std.proofs.Common.{◌≡◌, ℕ, ℤ, ◌+ℤ◌, ◌-ℤ◌, ◌∙◌, Bool, true, false, IsTrue, Option, None, Some, is_some, if◌then◌else◌, refl, sym, arith}
+use Rattle.std.proofs.lemmas.Bool.{false≢true}
 use Rattle.std.proofs.lemmas.Int.{ints}
 use Rattle.geom_base.specs.declared.point.Point.{Point}
 use Rattle.geom_base.specs.declared.rect.Rect.{Rect}
 use Rattle.geom_base.specs.Points.{moved, moved_back, moved_rect}
-use Rattle.geom_base.specs.Step.{value_after}
 use Rattle.pix_format.specs.Value.{bits_of}
 use Rattle.rop_mix.specs.Needs as X
 use Rattle.rop_mix.specs.Rop.{rop4_of}
-use Rattle.brush_obj.specs.Calls.{CallsLend, CallsMove, Operands, new_of_blt, operand, point_across}
+use Rattle.brush_obj.specs.Calls.{CallsLend, CallsMove, IgnoresTarget, operand, point_across}
 use Rattle.brush_obj.specs.Wrapping.{from_origin}
 use Rattle.brush_obj.specs.declared.blt_call.BltCall.{BltCall}
 use Rattle.brush_obj.specs.declared.draw_call.DrawCall.TheVariants.{Blt, Copy, Paint}
@@ -52,12 +52,17 @@ lends (Copy c) at o lent p d h =
     rw (source, h.format) refl
 lends (Paint c) at o lent p d h = rw (h.pattern, h.format) refl
 
--- a raster operation that needs neither source nor mask nor old value
-pub blt_ignores : (c : BltCall) (target source mask : Bool) →
+-- an operand that is found where it is needed has a value
+found : (needed : Bool) (value : Option ℕ) → (IsTrue needed → IsTrue (is_some value)) → (v : ℕ) × (operand needed value ≡ Some v)
+found true (Some v) h = (v, refl)
+found true None h = absurd (false≢true (h refl))
+found false value h = (0, refl)
+
+-- a raster operation that needs neither mask nor old value
+pub blt_ignores : (c : BltCall) (target mask : Bool) →
     (target ≡ false → (m : Bool) (p s d e bits : ℕ) → rop4_of c.rop.code m p s d bits ≡ rop4_of c.rop.code m p s e bits) →
-    source ≡ X.source_needed c.rop.code → mask ≡ X.mask_needed c.rop.code → target ≡ false → source ≡ false → mask ≡ false →
-    (o : Operands) (p : Point) (d e : ℕ) → value_after (new_of_blt c o) p d ≡ value_after (new_of_blt c o) p e
-blt_ignores c target source mask spared s m t no_source no_mask o p d e =
-    let one : X.source_needed c.rop.code ≡ false = sym s ∙ no_source in
-    let two : X.mask_needed c.rop.code ≡ false = sym m ∙ no_mask in
-    rw (one, two) (spared t false (if X.pattern_needed c.rop.code then o.pattern (from_origin c.origin p) else 0) 0 d e (bits_of o.format))
+    mask ≡ X.mask_needed c.rop.code → target ≡ false → mask ≡ false → IgnoresTarget (Blt c)
+blt_ignores c target mask spared m no_target no_mask o p d e finds =
+    let none : X.mask_needed c.rop.code ≡ false = sym m ∙ no_mask in
+    let one = found (X.source_needed c.rop.code) (o.source (point_across c.rect c.src p)) finds in
+    rw (one.1, none) (spared no_target false (if X.pattern_needed c.rop.code then o.pattern (from_origin c.origin p) else 0) one.0 d e (bits_of o.format))

@@ -1,5 +1,5 @@
 -- One drawing call on one surface: which points it reaches, and the new value of each, from the values before the call alone.
-use Rattle.std.specs.Prelude.{◌≡◌, ◌+ℤ◌, FitsSigned, IfSome, IsTrue, ℕ, pos, ◌-ℤ◌, List, Option, None, Some, Bool, true, false, if◌then◌else◌, ◌==◌, option_map}
+use Rattle.std.specs.Prelude.{◌≡◌, ◌+ℤ◌, FitsSigned, IfSome, IsTrue, ℕ, pos, ◌-ℤ◌, List, Option, None, Some, is_some, Bool, true, false, if◌then◌else◌, ◌==◌, option_map}
 use Rattle.std.specs.Int.{w32}
 use Rattle.geom_base.specs.declared.point.Point.{Point}
 use Rattle.geom_base.specs.declared.rect.Rect.{Rect}
@@ -213,6 +213,10 @@ abbrev pub CallsLend : Type 0
 CallsLend = (c : DrawCall) (at : Point) (o lent : Operands) (p : Point) (d : ℕ) → SameButSource c at o lent p →
     new_of_call (lent_call c at) lent p d ≡ new_of_call c o p d
 
--- what a call gives a point is the same whatever the point had
+-- where a call reads its source, that has the point which belongs to a point
+abbrev pub FindsSource : DrawCall → Operands → Point → Type 0
+FindsSource c o p = IsTrue (reads_source c) → IsTrue (is_some (o.source (source_point c p)))
+
+-- what a call gives a point whose source it finds is the same whatever the point had
 abbrev pub IgnoresTarget : DrawCall → Type 0
-IgnoresTarget c = (o : Operands) (p : Point) (d e : ℕ) → value_after (new_of_call c o) p d ≡ value_after (new_of_call c o) p e
+IgnoresTarget c = (o : Operands) (p : Point) (d e : ℕ) → FindsSource c o p → value_after (new_of_call c o) p d ≡ value_after (new_of_call c o) p e

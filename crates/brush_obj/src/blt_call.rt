@@ -1,12 +1,10 @@
 //! The call that combines a mask, a brush, a source and a target.
 
-ghost use Rattle.std.specs.Prelude.{◌≡◌, ℕ, false};
-ghost use Rattle.geom_base.specs.declared.point.Point.{Point};
-ghost use Rattle.geom_base.specs.Step.{value_after};
+ghost use Rattle.std.specs.Prelude.{◌≡◌, false};
 
 use crate::shifting::shifted;
 use geom_base::{Point, Rect, Target};
-use rop_mix::{Rop4, needs_mask, needs_source, needs_target};
+use rop_mix::{Rop4, needs_mask, needs_target};
 
 /// A raster operation in a rectangle of a target. Points are the target's, `src` and `mask` the points of source and mask for
 /// the rectangle's corner. `held` names the source where the same driver keeps it; no view of it is lent then.
@@ -22,19 +20,15 @@ pub struct BltCall {
 }
 
 impl BltCall {
-    ghost use Rattle.brush_obj.specs.Calls.{Operands, PointMoves, RectMoves, moved_blt, new_of_blt};
+    ghost use Rattle.brush_obj.specs.Calls.{IgnoresTarget, PointMoves, RectMoves, moved_blt};
+    ghost use Rattle.brush_obj.specs.declared.draw_call.DrawCall.TheVariants.{Blt};
 
-    /// Whether what a point gets may depend on what it had.
+    /// Whether what a point gets may depend on what it had, though the call finds its source: where the old value counts, or a
+    /// point of the mask may be wanting.
     pub fn reads_target(&self) -> bool
-        ensures { result ≡ false → (o : Operands) (p : Point) (d e : ℕ) → value_after (new_of_blt self.now o) p d ≡ value_after (new_of_blt self.now o) p e }
+        ensures { result ≡ false → IgnoresTarget (Blt self.now) }
     {
-        if needs_target(self.rop) {
-            return true;
-        }
-        if needs_source(self.rop) {
-            return true;
-        }
-        needs_mask(self.rop)
+        needs_target(self.rop) || needs_mask(self.rop)
     }
 
     /// The call on a target whose points are moved.

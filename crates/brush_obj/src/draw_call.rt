@@ -66,13 +66,14 @@ impl DrawCall {
         }
     }
 
-    /// Whether what a point gets may depend on what it had: where its old value counts, or a point of source or mask may be wanting.
+    /// Whether what a point gets may depend on what it had, though the call finds its source: where the old value counts, or a
+    /// point of the mask may be wanting.
     pub fn reads_target(&self) -> bool
         ensures { result ≡ false → IgnoresTarget self.now }
     {
         match self {
             DrawCall::Blt(call) => call.reads_target(),
-            DrawCall::Copy(_) => true,
+            DrawCall::Copy(call) => call.as_blt().reads_target(),
             DrawCall::Paint(call) => call.reads_target(),
         }
     }

@@ -16,16 +16,17 @@ use Rattle.surf_obj.specs.RectLaws.{length-rect_values, redrawn_agree, redrawn_a
 use Rattle.surf_obj.specs.Rects.{as_in_at, rect_values}
 use Rattle.surf_obj.specs.Surface.{Surface}
 use Rattle.surf_obj.specs.declared.object.SurfObj.{SurfObj}
-use Rattle.brush_obj.specs.Calls.{CallsLend, CallsMove, IgnoresTarget, held_of, lent_call, moved_call, new_of_call, shown, target_of}
+use Rattle.brush_obj.specs.Calls.{CallsLend, CallsMove, IgnoresTarget, held_of, lent_call, moved_call, new_of_call, shown, source_point, target_of}
 use Rattle.brush_obj.specs.declared.draw_call.DrawCall.{DrawCall}
-use Rattle.clip_obj.specs.Clip.{LiesWithin, to_origin}
-use Rattle.copy_port.specs.Given.{CanDraw, asked_of, held_in, operands_given, picture_of_view}
+use Rattle.clip_obj.specs.Clip.{to_origin}
+use Rattle.clip_obj.specs.ClipLaws.{clip_in}
+use Rattle.copy_port.specs.Given.{CanDraw, Picture, asked_of, first_of, held_in, operands_given, picture_of_view, points_of}
 use Rattle.copy_port.specs.State.{Shown, surface_of}
-use Rattle.eng_calls.specs.InnerCopies.{Frames, HeldFor, IsDrawnCopy, IsLentAs, StandsIn, begins_at}
+use Rattle.eng_calls.specs.InnerCopies.{FindsSources, Frames, HeldFor, IsDrawnCopy, IsLentAs, StandsIn, begins_at}
 use Rattle.eng_calls.specs.Inputs.{drawn_with, given_of}
 use Rattle.eng_calls.specs.declared.copies.PartCopy.{PartCopy}
 use Rattle.eng_calls.specs.declared.inputs.Inputs.{Inputs}
-use Rattle.eng_calls.proofs.LentLemmas.{same_but_source, stands_for}
+use Rattle.eng_calls.proofs.LentLemmas.{has_translation, same_but_source, stands_for, translated_found}
 
 -- a point of a clip, seen from a corner, is one of the clip seen from it
 
@@ -49,32 +50,12 @@ seen_point corner p = ap (λ x. record { x = x; y = p.y -ℤ corner.y }) (minus 
     minus : (a b : ℤ) → a -ℤ b ≡ a +ℤ (pos 0 -ℤ b)
     minus a b = omega (arith, ints)
 
--- a point of a clip is in the frame
-pub clip_in : (frame : Rect) (rects : List Rect) (p : Point) → All (LiesWithin frame) rects → IsTrue (is_in_some p rects) → IsTrue (is_in p frame)
-clip_in frame [] p all t = absurd (false≢true t)
-clip_in frame (r ∷ rects) p all t = at (is_in p r) refl (λ u. clip_in frame rects p (All-tail (LiesWithin frame) r rects all) u)
-  where
-    inside : IsTrue (is_in p r) → IsTrue (is_in p frame)
-    inside t =
-        let h = (is_in-IsIn p r).0 t in
-        let w = All-head (LiesWithin frame) r rects all in
-        (is_in-IsIn p frame).1 (record {
-          from_left = omega (arith, ints, h.from_left, w.left);
-          to_right = omega (arith, ints, h.to_right, w.right);
-          from_top = omega (arith, ints, h.from_top, w.top);
-          to_bottom = omega (arith, ints, h.to_bottom, w.bottom);
-        })
-
-    at : (b : Bool) → is_in p r ≡ b → (IsTrue (is_in_some p rects) → IsTrue (is_in p frame)) → IsTrue (is_in p frame)
-    at true e k = inside e
-    at false e k = k (subst (λ b. IsTrue (b || is_in_some p rects)) e t)
-
 -- the call on the copy, and what it was asked for
 pub record OnCopy (call : DrawCall) (i : Inputs) (targets : Shown) (frame : Rect) (clip : List Rect) (part : Option PartCopy) (before after : SurfObj) : Type 0 where
   pub can : CanDraw call (given_of i) targets clip
   pub framed : Frames frame clip
   pub held : HeldFor (held_of call) call targets frame part
-  pub copy : StandsIn call (surface_of targets (target_of call)) frame before
+  pub copy : StandsIn call (first_of (given_of i).source (held_in (held_of call) targets)) (surface_of targets (target_of call)) frame before
   pub lent : Inputs
   pub lent_as : IsLentAs part i lent
   pub size : object_size after ≡ object_size before
@@ -124,15 +105,20 @@ drawn_on_copy call i targets frame clip part before after moves lends h = record
         (λ reads. stands_for (held_of call) call (option_map picture_of_view h.lent.source) (given_of i).source targets frame part h.can.held h.held
         h.lent_as.source reads p here)))
 
-    kept : (p : Point) → IsIn p frame → IgnoresTarget call → (d e : ℕ) →
+    source : Option Picture
+    source = first_of (given_of i).source (held_in (held_of call) targets)
+
+    kept : (p : Point) → IsIn p frame → IgnoresTarget call × FindsSources call source frame → (d e : ℕ) →
         value_after new_on_copy (moved_back (corner_of frame) p) d ≡ value_after new_on_copy (moved_back (corner_of frame) p) e
-    kept p here ignores d e =
+    kept p here k d e =
         ap (λ (o : Option ℕ). unwrap_or o d) (same p d here)
-        ∙ ignores (operands_given (given_of i) (held_in (held_of call) targets) s.format) p d e
+        ∙ k.0 (operands_given (given_of i) (held_in (held_of call) targets) s.format) p d e
+        (λ reads. translated_found (given_of i).xlate (points_of source) (source_point call p)
+        (has_translation call (given_of i) (held_in (held_of call) targets) s.format reads h.can.suits) (k.1 reads p here))
         ∙ sym (ap (λ (o : Option ℕ). unwrap_or o e) (same p e here))
 
     over_values : (area : Area) → ((p : Point) → IsTrue (area p) → IsTrue (is_in_some p clip)) →
-        ((object_values before ≡ rect_values frame s.size s.values) ⊎ IgnoresTarget call) →
+        ((object_values before ≡ rect_values frame s.size s.values) ⊎ (IgnoresTarget call × FindsSources call source frame)) →
         redrawn s.size s.values area (as_in_at (corner_of frame) (sides_of frame) (redrawn (sides_of frame) (object_values before) on_copy new_on_copy)) ≡
         redrawn s.size s.values area
         (as_in_at (corner_of frame) (sides_of frame) (redrawn (sides_of frame) (rect_values frame s.size s.values) on_copy new_on_copy))

@@ -23,9 +23,9 @@ use Rattle.surf_obj.specs.declared.object.SurfObj.{SurfObj}
 use Rattle.brush_obj.specs.Calls.{IgnoresTarget, PointMovesBack, RectMoves, rect_of, shown, source_point, src_of}
 use Rattle.brush_obj.specs.declared.draw_call.DrawCall.{DrawCall}
 use Rattle.brush_obj.specs.declared.draw_call.DrawCall.TheVariants.{Blt, Copy, Paint}
-use Rattle.copy_port.specs.Given.{HasCoordinates, IsCallRect, IsCoordinate, IsPoint, held_in, picture_of, points_of}
-use Rattle.copy_port.specs.State.{IsLive, Shown, surface_of}
-use Rattle.eng_calls.specs.InnerCopies.{HeldFor, IsCopyOf, IsHeldPart, IsPlace, LiesOnTarget, StandsIn, begins_at, to_source}
+use Rattle.copy_port.specs.Given.{HasCoordinates, IsCallRect, IsCoordinate, IsPoint, Picture, held_in, picture_of, points_of}
+use Rattle.copy_port.specs.State.{IsLive, PortState, Shown, surface_of}
+use Rattle.eng_calls.specs.InnerCopies.{FindsSources, HeldFor, IsCopyOf, IsHeldPart, IsPlace, LiesOnTarget, StandsIn, begins_at, to_source}
 use Rattle.eng_calls.specs.declared.copies.PartCopy.{PartCopy}
 
 -- a rectangle of a target lies on a surface, and has sides
@@ -38,6 +38,9 @@ on_target r size h sides = record {
   down = h.down;
   bottom = omega (arith, ints, h.bottom, sides.3);
 }
+
+pub frame_on_target : (frame : Rect) (t : Target) (state : PortState) → IsLive state.shown t → LiesIn frame (surface_of state.shown t).size → LiesOnTarget frame
+frame_on_target frame t state live inside = on_target frame (surface_of state.shown t).size inside (state.sound t live).sides
 
 pub target_sides : HasSides (record { w = 4096; h = 4096 })
 target_sides = (omega arith, omega arith, omega arith, omega arith)
@@ -226,21 +229,37 @@ row_fits r n points on e =
     least : (w h n : ℕ) → w ≤ 4096 → 1 ≤ h → n ≡ min (w * h) 4096 → w ≤ n
     least w h n wide high e = let p : w * 1 ≤ w * h = mul-le-mul_left w high in omega (arith, p, wide, e)
 
+-- a source finds the points for those of a rectangle
+
+pub finds_all : (call : DrawCall) (size : Size) (r part : Rect) → part ≡ moved_rect r (to_source call) → (pos 0 ≤ℤ part.left) × (part.right ≤ℤ pos size.w) →
+    (pos 0 ≤ℤ part.top) × (part.bottom ≤ℤ pos size.h) → (p : Point) → IsIn p r → IsIn (source_point call p) (whole size)
+finds_all call size r part is across down p h =
+    let i : IsIn (source_point call p) part = rw is (source_in call r p h) in
+    record {
+      from_left = omega (arith, ints, across.0, i.from_left);
+      to_right = omega (arith, ints, across.1, i.to_right);
+      from_top = omega (arith, ints, down.0, i.from_top);
+      to_bottom = omega (arith, ints, down.1, i.to_bottom);
+    }
+
+shown_there : (size : Size) (values : List ℕ) (q : Point) → IsIn q (whole size) → IsTrue (is_some (shown size values q))
+shown_there size values q h = ap (λ b. is_some (cond b (Some (value_of_point size values q)) None)) ((is_in-IsIn q (whole size)).1 h)
+
 -- what stands in the place of a part of a target
 
-pub copy_stands : (call : DrawCall) (s : Surface) (r : Rect) (pixels : SurfObj) → IsCopyOf s r pixels → StandsIn call s r pixels
-copy_stands call s r pixels h = record {
+pub copy_stands : (call : DrawCall) (source : Option Picture) (s : Surface) (r : Rect) (pixels : SurfObj) → IsCopyOf s r pixels → StandsIn call source s r pixels
+copy_stands call source s r pixels h = record {
   size = h.size;
   format = h.format;
   count = ap length h.values ∙ length-rect_values r s.size s.values;
   values = inl h.values;
 }
 
-pub blank_stands : (call : DrawCall) (s : Surface) (r : Rect) (format : Format) (pixels : SurfObj) → format ≡ s.format → IsBlank (sides_of r) format pixels →
-    IgnoresTarget call → StandsIn call s r pixels
-blank_stands call s r format pixels e h ignores = record {
+pub blank_stands : (call : DrawCall) (source : Option Picture) (s : Surface) (r : Rect) (format : Format) (pixels : SurfObj) → format ≡ s.format →
+    IsBlank (sides_of r) format pixels → IgnoresTarget call → FindsSources call source r → StandsIn call source s r pixels
+blank_stands call source s r format pixels e h ignores finds = record {
   size = ap (λ (l : Layout). l.size) h.layout;
   format = ap (λ (l : Layout). l.format) h.layout ∙ e;
   count = ap length h.values ∙ length-replicate (width_of r * height_of r) 0;
-  values = inr ignores;
+  values = inr (ignores, finds);
 }

@@ -1,7 +1,8 @@
 -- Calls whose operands are handed in are those of the record of what is handed; and sources that stand for others.
-use Rattle.std.proofs.Common.{◌≡◌, ◌∙◌, ℕ, ℤ, pos, ◌-ℤ◌, IsTrue, List, Option, Some, None, option_map, refl, ap, arith}
+use Rattle.std.proofs.Common.{◌≡◌, ◌∙◌, ℕ, ℤ, pos, ◌-ℤ◌, IsTrue, List, Option, Some, None, is_some, option_map, refl, ap, arith}
 use Rattle.std.specs.Borrow.{Bor}
 use Rattle.std.specs.Option.{option_copied}
+use Rattle.std.proofs.lemmas.Bool.{false≢true}
 use Rattle.std.proofs.lemmas.Int.{ints}
 use Rattle.geom_base.specs.declared.point.Point.{Point}
 use Rattle.geom_base.specs.declared.rect.Rect.{Rect}
@@ -18,6 +19,7 @@ use Rattle.surf_obj.specs.declared.view.LentView.{LentView}
 use Rattle.brush_obj.specs.Calls.{SameButSource, reads_source, shown, source_point}
 use Rattle.brush_obj.specs.Slots.{Brush}
 use Rattle.brush_obj.specs.declared.draw_call.DrawCall.{DrawCall}
+use Rattle.brush_obj.specs.declared.draw_call.DrawCall.TheVariants.{Blt, Copy, Paint}
 use Rattle.blt_kernel.specs.Handed.{mask_of, source_of}
 use Rattle.copy_port.specs.Given as given
 use Rattle.copy_port.specs.State.{Shown}
@@ -93,3 +95,24 @@ copy_is_source held part i view e bits layout =
   where
     seen : Layout → List ℕ → given.Picture
     seen l b = record { format = l.format; at = shown l.size (values_in l b) }
+
+is_there : {A : Type 0} (o : Option A) (P : A → Type 0) → given.IsThereAnd o P → IsTrue (is_some o)
+is_there None P h = absurd h
+is_there (Some a) P h = refl
+
+-- a call that reads its source has a translation, by which what is there stays there
+
+pub has_translation : (call : DrawCall) (g : given.Given) (held : Option given.Picture) (format : Format) → IsTrue (reads_source call) →
+    given.Suits call g held format → IsTrue (is_some g.xlate)
+has_translation (Blt c) g held format reads h = is_there g.xlate _ h.0
+has_translation (Copy c) g held format reads h = is_there g.xlate _ h.0
+has_translation (Paint c) g held format reads h = absurd (false≢true reads)
+
+pub translated_found : (x : Option Translation) (source : Point → Option ℕ) (q : Point) → IsTrue (is_some x) → IsTrue (is_some (source q)) →
+    IsTrue (is_some (given.translated_by x source q))
+translated_found None source q t h = absurd (false≢true t)
+translated_found (Some x) source q t h = kept (source q) h
+  where
+    kept : (v : Option ℕ) → IsTrue (is_some v) → IsTrue (is_some (option_map (translated x) v))
+    kept None l = absurd (false≢true l)
+    kept (Some v) l = refl

@@ -22,6 +22,7 @@ use Rattle.surf_obj.specs.Rects.{as_in_at}
 use Rattle.surf_obj.specs.Surface.{Surface, changed}
 use Rattle.surf_obj.specs.declared.object.SurfObj.{SurfObj}
 use Rattle.clip_obj.specs.Clip.{LiesWithin}
+use Rattle.clip_obj.specs.ClipLaws.{all_within, clip_in, lies_within}
 use Rattle.copy_port.specs.Laws.{draws_as, keeps_then_draws}
 use Rattle.copy_port.specs.Port.{Draws, Keeps}
 use Rattle.copy_port.specs.State.{PortState, Shown, surface_of}
@@ -43,38 +44,12 @@ in_clip rects k d p lt h = list_any_at (λ r. is_in p r) rects k d lt ((is_in-Is
 -- the rectangles of a clip lie within their extents
 pub all_framed : (rects : List Rect) (frame : Rect) → AreExtents rects frame → All HasPoints rects → All (LiesWithin frame) rects
 all_framed rects frame h points = λ k d lt.
-    let r = get_or rects k d in
-    let some = points k d lt in
-    let b = lies_between r frame (λ p i. (is_in-IsIn p frame).0 (h.within p (in_clip rects k d p lt i))) some in
-    record {
-      left = b.left;
-      across = omega (arith, ints, some.across);
-      right = b.right;
-      top = b.top;
-      down = omega (arith, ints, some.down);
-      bottom = b.bottom;
-    }
+    lies_within (get_or rects k d) frame (λ p i. (is_in-IsIn p frame).0 (h.within p (in_clip rects k d p lt i))) (points k d lt)
 
 -- and the extents lie in the surface that they lie in
-in_surface : (rects : List Rect) (size : Size) (p : Point) → All (λ r. LiesIn r size) rects → IsTrue (is_in_some p rects) → IsTrue (is_in p (whole size))
-in_surface [] size p all t = absurd (false≢true t)
-in_surface (r ∷ rects) size p all t = at (is_in p r) refl (λ u. in_surface rects size p (All-tail (λ r. LiesIn r size) r rects all) u)
-  where
-    at : (b : Bool) → is_in p r ≡ b → (IsTrue (is_in_some p rects) → IsTrue (is_in p (whole size))) → IsTrue (is_in p (whole size))
-    at true e k =
-        let h = (is_in-IsIn p r).0 e in
-        let w = All-head (λ r. LiesIn r size) r rects all in
-        (is_in-IsIn p (whole size)).1 (record {
-          from_left = omega (arith, ints, h.from_left, w.left);
-          to_right = omega (arith, ints, h.to_right, w.right);
-          from_top = omega (arith, ints, h.from_top, w.top);
-          to_bottom = omega (arith, ints, h.to_bottom, w.bottom);
-        })
-    at false e k = k (subst (λ b. IsTrue (b || is_in_some p rects)) e t)
-
 pub frame_inside : (rects : List Rect) (frame : Rect) (size : Size) → AreExtents rects frame → HasPoints frame → All (λ r. LiesIn r size) rects → LiesIn frame size
 frame_inside rects frame size h points all =
-    let b = lies_between frame (whole size) (λ p i. (is_in-IsIn p (whole size)).0 (h.least (whole size) (λ q t. in_surface rects size q all t) p ((is_in-IsIn p frame).1 i))) points in
+    let b = lies_between frame (whole size) (λ p i. (is_in-IsIn p (whole size)).0 (h.least (whole size) (λ q t. clip_in (whole size) rects q (all_within size rects all) t) p ((is_in-IsIn p frame).1 i))) points in
     record {
       left = b.left;
       across = omega (arith, ints, points.across);

@@ -1,5 +1,5 @@
 -- Inside the crate: copies of parts of targets, on which a call is drawn.
-use Rattle.std.specs.Prelude.{◌≡◌, ◌-ℤ◌, ◌≤ℤ◌, pos, IsTrue, IfSome, List, ◌*◌, ◌⊎◌, Option, Some, None, Result, Ok, Err, length, option_map}
+use Rattle.std.specs.Prelude.{◌≡◌, ◌-ℤ◌, ◌≤ℤ◌, pos, IsTrue, IfSome, List, ◌*◌, ◌⊎◌, Option, Some, None, is_some, Result, Ok, Err, length, option_map}
 use Rattle.std.specs.List.{All}
 use Rattle.geom_base.specs.declared.point.Point.{Point}
 use Rattle.geom_base.specs.declared.port_answer.PortAnswer.{PortAnswer}
@@ -32,12 +32,17 @@ pub record IsCopyOf (s : Surface) (r : Rect) (copy : SurfObj) : Type 0 where
   pub format : object_format copy ≡ s.format
   pub values : object_values copy ≡ rect_values r s.size s.values
 
--- a surface of the size of a rectangle on which a call can be drawn in its place: a copy, or any where the call ignores what points have
-pub record StandsIn (call : DrawCall) (s : Surface) (r : Rect) (pixels : SurfObj) : Type 0 where
+-- where a call reads its source, that has the points which belong to those of a rectangle
+abbrev pub FindsSources : DrawCall → Option Picture → Rect → Type 0
+FindsSources call source r = IsTrue (reads_source call) → (p : Point) → IsIn p r → IsTrue (is_some (points_of source (source_point call p)))
+
+-- a surface of the size of a rectangle on which a call can be drawn in its place: a copy, or any where the call finds its source and ignores
+-- what points have
+pub record StandsIn (call : DrawCall) (source : Option Picture) (s : Surface) (r : Rect) (pixels : SurfObj) : Type 0 where
   pub size : object_size pixels ≡ sides_of r
   pub format : object_format pixels ≡ s.format
   pub count : length (object_values pixels) ≡ width_of r * height_of r
-  pub values : (object_values pixels ≡ rect_values r s.size s.values) ⊎ IgnoresTarget call
+  pub values : (object_values pixels ≡ rect_values r s.size s.values) ⊎ (IgnoresTarget call × FindsSources call source r)
 
 -- a frame is around the rectangles of a clip, and has points
 pub record Frames (frame : Rect) (clip : List Rect) : Type 0 where

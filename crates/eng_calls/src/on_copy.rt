@@ -152,7 +152,7 @@ pub fn drawn_copy<P: CopyPort>(
     ensures err { IfErr result (λ answer. ¬ (answer ≡ Done)) }
 {
     let held = held_part(alloc, port, call, &framed.frame, room)?;
-    let mut pixels = stand_in(alloc, port, call, &framed.frame, room)?;
+    let mut pixels = stand_in(alloc, port, call, inputs.source, &framed.frame, room)?;
     calls_move();
     let call = call.lent_from(begins_at(&held));
     match draw_lent(alloc, &mut pixels, framed, &call, inputs, &held) {

@@ -4,15 +4,17 @@ use Rattle.brush_obj.specs.Calls.{held_of, target_of}
 use Rattle.copy_port.specs.State.{surface_of}
 use Rattle.eng_calls.specs.InnerCopies.{begins_at}
 use Rattle.eng_calls.proofs.CopyStepLemmas.{drawn_on_copy}
-use Rattle.eng_calls.proofs.HeldLemmas.{held_place, lent_place, on_target}
+use Rattle.eng_calls.proofs.HeldLemmas.{frame_on_target, held_place, lent_place}
 use Rattle.eng_calls.proofs.SuitLemmas.{lent_moves, lent_suits}
 use Rattle.eng_calls.proofs.on_copy.drawn_copy.Goals as goal
 
 pub held_part-requires-clause-frame : goal.held_part-requires-clause-frame
 held_part-requires-clause-frame g c =
-    let state = g.P.Pictured.state c.args.port.now in
-    on_target c.args.framed.now.frame (surface_of state.shown (target_of c.args.call.now)).size c.requires.inside
-    (state.sound (target_of c.args.call.now) c.requires.can.alive).sides
+    frame_on_target c.args.framed.now.frame (target_of c.args.call.now) (g.P.Pictured.state c.args.port.now) c.requires.can.alive c.requires.inside
+
+pub stand_in-requires-clause-on_target : goal.stand_in-requires-clause-on_target
+stand_in-requires-clause-on_target g c =
+    frame_on_target c.args.framed.now.frame (target_of c.args.call.now) (g.P.Pictured.state c.args.port.now) c.requires.can.alive c.requires.inside
 
 pub lent_from-call-requires : goal.lent_from-call-requires
 lent_from-call-requires g c =
@@ -22,9 +24,7 @@ lent_from-call-requires g c =
 
 pub draw_lent-requires-clause-on_target : goal.draw_lent-requires-clause-on_target
 draw_lent-requires-clause-on_target g c =
-    let state = g.P.Pictured.state c.args.port.now in
-    on_target c.args.framed.now.frame (surface_of state.shown (target_of c.args.call.now)).size c.requires.inside
-    (state.sound (target_of c.args.call.now) c.requires.can.alive).sides
+    frame_on_target c.args.framed.now.frame (target_of c.args.call.now) (g.P.Pictured.state c.args.port.now) c.requires.can.alive c.requires.inside
 
 pub draw_lent-requires-clause-moves : goal.draw_lent-requires-clause-moves
 draw_lent-requires-clause-moves g c =
