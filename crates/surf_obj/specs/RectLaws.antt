@@ -159,6 +159,20 @@ whole_written size vs from long same =
     ∙ rw (in_whole size.w size.h x y hx hy, side_of x, side_of y, side_of size.w) refl)
     ∙ sym (same_grid size.w size.h (value_at size from) from same (λ x y hx hy. refl))
 
+-- a point that a step draws on a copy of a rectangle
+drawn_at : (r : Rect) (vs : List ℕ) (area : Area) (new : Change) (p : Point) → length vs ≡ width_of r * height_of r → IsIn p r →
+    IsTrue (area (moved_back (corner_of r) p)) →
+    value_of_point (sides_of r) (redrawn (sides_of r) vs area new) (moved_back (corner_of r) p) ≡
+    value_after new (moved_back (corner_of r) p) (value_of_point (sides_of r) vs (moved_back (corner_of r) p))
+drawn_at r vs area new p long h drawn =
+    let dx = unsigned_abs (p.x -ℤ r.left) in
+    let dy = unsigned_abs (p.y -ℤ r.top) in
+    let point : point_at dx dy ≡ moved_back (corner_of r) p = same_point (point_at dx dy) (moved_back (corner_of r) p) (distance r.left p.x h.from_left)
+    (distance r.top p.y h.from_top) in
+    value_at-redrawn (sides_of r) vs area new dx dy long (below_width r.left r.right p.x h.from_left h.to_right)
+    (below_width r.top r.bottom p.y h.from_top h.to_bottom)
+    ∙ rw (point, drawn) refl
+
 -- a step that gives a point the same whatever it had shows the same there over any values
 pub redrawn_any : (r : Rect) (vs ws : List ℕ) (area : Area) (new : Change) (p : Point) → length vs ≡ width_of r * height_of r →
     length ws ≡ width_of r * height_of r → IsIn p r → IsTrue (area (moved_back (corner_of r) p)) →
@@ -166,22 +180,7 @@ pub redrawn_any : (r : Rect) (vs ws : List ℕ) (area : Area) (new : Change) (p 
     value_of_point (sides_of r) (redrawn (sides_of r) vs area new) (moved_back (corner_of r) p) ≡
     value_of_point (sides_of r) (redrawn (sides_of r) ws area new) (moved_back (corner_of r) p)
 redrawn_any r vs ws area new p long wide h drawn same =
-    let dx = unsigned_abs (p.x -ℤ r.left) in
-    let dy = unsigned_abs (p.y -ℤ r.top) in
-    let point : point_at dx dy ≡ moved_back (corner_of r) p = same_point (point_at dx dy) (moved_back (corner_of r) p) (back r.left p.x h.from_left)
-    (back r.top p.y h.from_top) in
-    let column = below_width r.left r.right p.x h.from_left h.to_right in
-    let row = below_width r.top r.bottom p.y h.from_top h.to_bottom in
-    let one : value_of_point (sides_of r) (redrawn (sides_of r) vs area new) (moved_back (corner_of r) p) ≡
-    value_after new (moved_back (corner_of r) p) (value_at (sides_of r) vs dx dy) =
-    value_at-redrawn (sides_of r) vs area new dx dy long column row ∙ rw (point, drawn) refl in
-    let two : value_of_point (sides_of r) (redrawn (sides_of r) ws area new) (moved_back (corner_of r) p) ≡
-    value_after new (moved_back (corner_of r) p) (value_at (sides_of r) ws dx dy) =
-    value_at-redrawn (sides_of r) ws area new dx dy wide column row ∙ rw (point, drawn) refl in
-    one ∙ same (value_at (sides_of r) vs dx dy) (value_at (sides_of r) ws dx dy) ∙ sym two
-  where
-    back : (l x : ℤ) → l ≤ℤ x → pos (unsigned_abs (x -ℤ l)) ≡ x -ℤ l
-    back l x a = omega (arith, ints)
+    drawn_at r vs area new p long h drawn ∙ same _ _ ∙ sym (drawn_at r ws area new p wide h drawn)
 
 -- A step on a copy of a rectangle of the surface, taken over to points of the surface, is the step on them: they lie in the rectangle
 -- and in what was drawn of the copy, and the copy's change is the surface's seen from the rectangle's corner.
@@ -197,11 +196,6 @@ redrawn_through r size vs copy area on_copy new new_on_copy reads inside drawn s
         value_of_point (sides_of r) (redrawn (sides_of r) copy on_copy new_on_copy) (moved_back (corner_of r) p) ≡ value_after new p (get_or vs i 0)
     at i p t place =
         let h = (is_in-IsIn p r).0 (inside p t) in
-        let dx = unsigned_abs (p.x -ℤ r.left) in
-        let dy = unsigned_abs (p.y -ℤ r.top) in
-        let point : point_at dx dy ≡ moved_back (corner_of r) p = same_point (point_at dx dy) (moved_back (corner_of r) p) (distance r.left p.x h.from_left)
-        (distance r.top p.y h.from_top) in
-        let before : value_at (sides_of r) copy dx dy ≡ get_or vs i 0 = rw reads (rect_value r size vs p h ∙ place) in
-        value_at-redrawn (sides_of r) copy on_copy new_on_copy dx dy (ap length reads ∙ length-rect_values r size vs)
-        (below_width r.left r.right p.x h.from_left h.to_right) (below_width r.top r.bottom p.y h.from_top h.to_bottom)
-        ∙ rw (before, point, drawn p t, same p (get_or vs i 0) t) refl
+        let before : value_of_point (sides_of r) copy (moved_back (corner_of r) p) ≡ get_or vs i 0 = rw reads (rect_value r size vs p h ∙ place) in
+        drawn_at r copy on_copy new_on_copy p (ap length reads ∙ length-rect_values r size vs) h (drawn p t)
+        ∙ rw (before, same p (get_or vs i 0) t) refl
