@@ -1,6 +1,6 @@
 -- The state of a desk, and one command on it.
-use Rattle.std.specs.Prelude.{ℕ, ◌*◌, ◌+◌, ◌-ℤ◌, Bool, true, false, List, [], ◌∷◌, ◌++◌, length, map, replicate, slice_get, slice_index_or, slice_set}
-use Rattle.std.specs.Prelude.{Option, Some, None, option_map, unwrap_or, ◌&&◌, if◌then◌else◌}
+use Rattle.std.specs.Prelude.{ℕ, ℤ, pos, negsuc, ◌*◌, ◌+◌, ◌-ℤ◌, ◌≤ℤ◌, Bool, true, false, List, [], ◌∷◌, ◌++◌, length, map, replicate}
+use Rattle.std.specs.Prelude.{slice_get, slice_index_or, slice_set, Option, Some, None, option_map, unwrap_or, ◌&&◌, if◌then◌else◌}
 use Rattle.geom_base.specs.declared.point.Point.{Point}
 use Rattle.geom_base.specs.declared.rect.Rect.{Rect}
 use Rattle.geom_base.specs.declared.size.Size.{Size}
@@ -56,15 +56,23 @@ blank size format table = record { size = size; format = format; table = table; 
 abbrev pub look_of : Surface → Look
 look_of t = record { size = t.size; format = t.format }
 
--- a screen whose first point is the desk's
-abbrev pub at_first : Surface → ScreenAt
-at_first t = record { at = zero_point; look = look_of t }
+-- a coordinate of a point at which a screen may stand
+abbrev pub IsStand : ℤ → Type 0
+IsStand z = (negsuc 16383 ≤ℤ z) × (z ≤ℤ pos 16383)
+
+-- a screen may stand at a point
+abbrev pub MayStandAt : Point → Type 0
+MayStandAt p = IsStand p.x × IsStand p.y
+
+-- a screen that stands at a point
+abbrev pub standing_at : Point → Surface → ScreenAt
+standing_at at t = record { at = at; look = look_of t }
 
 -- before the first command
 abbrev pub first_state : Size → State
 first_state size =
     let screen = blank size B8 (standard_colours B8) in
-    record { places = at_first screen ∷ []; screens = screen ∷ []; bitmaps = []; brushes = [] }
+    record { places = standing_at zero_point screen ∷ []; screens = screen ∷ []; bitmaps = []; brushes = [] }
 
 -- what is there
 abbrev pub live_of : State → Live

@@ -1,13 +1,18 @@
 -- Of private calls: a desk as it stands beside one of its surfaces that is drawn on.
 use Rattle.std.specs.Prelude.{◌≡◌, ◌≢◌, ◌<◌, ◌^◌, ℕ, All, nat_eq, Bool, true, false, List, [], ◌∷◌, Option, Some, None, map, slice_get, slice_index_or}
 use Rattle.std.specs.Option.{option_copied}
+use Rattle.geom_base.specs.declared.point.Point.{Point}
 use Rattle.pix_format.specs.declared.format.Format.{Format}
 use Rattle.pix_format.specs.declared.rgb.Rgb.{Rgb}
 use Rattle.pix_format.specs.Value.{bits_of, black}
 use Rattle.surf_obj.specs.Surface.{Surface}
+use Rattle.brush_obj.specs.Calls.{CallMoves, PointMovesBack, src_of}
 use Rattle.brush_obj.specs.Slots.{Brush}
+use Rattle.brush_obj.specs.declared.draw_call.DrawCall.{DrawCall}
 use Rattle.brush_obj.specs.declared.face.BrushFace.{BrushFace}
+use Rattle.clip_obj.specs.Clip.{to_origin}
 use Rattle.script_orders.specs.Asked.{MaskIsOther, RowIsCopied}
+use Rattle.script_orders.specs.Rows.{zero_point}
 use Rattle.script_orders.specs.declared.desk_command.BrushUse.{BrushUse}
 use Rattle.script_orders.specs.declared.desk_command.BrushUse.TheVariants as uses
 use Rattle.script_orders.specs.declared.desk_command.DeskCommand.{DeskCommand}
@@ -20,17 +25,17 @@ use Rattle.script_orders.specs.declared.named.Named.TheVariants.{Screen, Bitmap}
 use Rattle.desk_span.specs.declared.others.Others.{Others}
 use Rattle.desk_span.specs.declared.reports.Cause.TheVariants.{Memory}
 use Rattle.desk_span.specs.Reports.{Told}
-use Rattle.desk_span.specs.Desk.{State, at_first, bitmap_at, row_like}
+use Rattle.desk_span.specs.Desk.{State, bitmap_at, row_like, standing_at}
 
--- the one screen of a desk, whose first point is the desk's
-pub record IsAlone (s : State) (screen : Surface) : Type 0 where
-  pub places : s.places ≡ at_first screen ∷ []
+-- the one screen of a desk, and where it stands
+pub record IsAlone (s : State) (at : Point) (screen : Surface) : Type 0 where
+  pub places : s.places ≡ standing_at at screen ∷ []
   pub screens : s.screens ≡ screen ∷ []
 
 -- the screen is beside a bitmap that is drawn on; or it is drawn on itself
-abbrev pub ScreenBeside : State → Spot → Surface → Option Surface → Type 0
-ScreenBeside s spots.Desk t screen = (screen ≡ None) × IsAlone s t
-ScreenBeside s (spots.Bitmap n) t screen = (u : Surface) × (screen ≡ Some u) × IsAlone s u
+abbrev pub ScreenBeside : State → Spot → Point → Surface → Option Surface → Type 0
+ScreenBeside s spots.Desk at t screen = (screen ≡ None) × IsAlone s at t
+ScreenBeside s (spots.Bitmap n) at t screen = (u : Surface) × (screen ≡ Some u) × IsAlone s at u
 
 -- the one target of a drawing on such a desk
 abbrev pub target_of : Spot → Named
@@ -48,6 +53,11 @@ source_surface s t feeds.Desk = slice_get s.screens 0
 source_surface s t (feeds.Bitmap n) = bitmap_at s n
 source_surface s t (feeds.Row values) = Some (row_like t values)
 
+-- the point at which a source stands: that of the screen where it is the desk, else 0 0
+abbrev pub stand_of : Point → Feed → Point
+stand_of at feeds.Desk = at
+stand_of at feed = zero_point
+
 -- what is drawn on isn't this bitmap
 abbrev pub IsOther : Spot → ℕ → Type 0
 IsOther spots.Desk m = Unit {0}
@@ -63,7 +73,7 @@ faces_of brushes = map (λ (b : Brush). b.face) brushes
 
 -- the desk's surfaces and brushes but for the surface that is drawn on
 pub record IsBeside (s : State) (spot : Spot) (t : Surface) (o : Others) : Type 0 where
-  pub screen : ScreenBeside s spot t (option_copied o.screen)
+  pub screen : ScreenBeside s spot o.screen_at t (option_copied o.screen)
   pub bitmaps : (m : ℕ) → IsOther spot m → slice_index_or o.bitmaps.now m None ≡ bitmap_at s m
   pub own : IsAt s spot t
   pub brushes : faces_of o.brushes.now ≡ s.brushes
@@ -83,6 +93,11 @@ pub record DrawsOn (t : Surface) (c : DeskCommand) : Type 0 where
   pub other : MaskIsOther c.target c.mask
   pub row : RowIsCopied c.source c.call
   pub fits : RowFits t.format c.source
+
+-- a call's coordinates stay in range when it is seen from one point, and its source from another
+pub record CanBeSeen (c : DrawCall) (at from : Point) : Type 0 where
+  pub call : CallMoves c (to_origin at)
+  pub source : PointMovesBack (src_of c) from
 
 abbrev pub IsNoRow : Feed → Type 0
 IsNoRow (feeds.Row values) = ⊥

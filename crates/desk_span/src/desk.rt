@@ -13,6 +13,7 @@ ghost use Rattle.script_orders.specs.declared.desk_command.Spot.TheVariants as s
 use crate::canvas::Canvas;
 use crate::draw::draw_beside;
 use crate::others::Others;
+use crate::place::{ORIGIN, Screen, is_seen_from_origin};
 use crate::reports::{Cause, DeskOutcome, Report, Reports};
 use brush_obj::BrushObj;
 use geom_base::Size;
@@ -24,7 +25,7 @@ use std::marker::Model;
 /// The screen, and the bitmaps and brushes in the order in which they were made.
 #[derive(Drop)]
 pub struct Desk {
-    screen: Canvas,
+    screen: Screen,
     /// None where a bitmap is gone.
     bitmaps: Vec<Option<Canvas>>,
     brushes: Vec<BrushObj>,
@@ -32,12 +33,20 @@ pub struct Desk {
 
 impl Model for Desk {
     ghost use Rattle.desk_span.specs.InnerBeside.{faces_of};
-    ghost use Rattle.std.specs.Prelude.{[], ◌∷◌};
-    ghost use Rattle.desk_span.specs.Desk.{State, at_first};
+    ghost use Rattle.std.specs.Prelude.{◌≡◌, [], ◌∷◌};
+    ghost use Rattle.script_orders.specs.Rows.{zero_point};
+    ghost use Rattle.desk_span.specs.Desk.{State, standing_at};
 
     ghost Value = { State };
 
-    ghost view = { λ d. record { places = at_first d.screen ∷ []; screens = d.screen ∷ []; bitmaps = d.bitmaps.items; brushes = faces_of d.brushes.items } };
+    ghost view = { λ d. record {
+      places = standing_at d.screen.at d.screen.canvas ∷ [];
+      screens = d.screen.canvas ∷ [];
+      bitmaps = d.bitmaps.items;
+      brushes = faces_of d.brushes.items;
+    } };
+
+    ghost invariant = { λ d. d.screen.at ≡ zero_point };
 }
 
 impl Desk {
@@ -47,9 +56,9 @@ impl Desk {
         ensures { IfOk result (λ d. d ≡ first_state size) }
     {
         let table = ColourTable::standard(alloc, Format::B8)?;
-        let screen = Canvas::new(alloc, size, Format::B8, table)?;
+        let canvas = Canvas::new(alloc, size, Format::B8, table)?;
         Ok(Desk {
-            screen,
+            screen: Screen { canvas, at: ORIGIN },
             bitmaps: Vec::new(alloc),
             brushes: Vec::new(alloc),
         })
@@ -61,7 +70,7 @@ impl Desk {
         ensures { surface_at self.now name ≡ Some result.now }
     {
         match name {
-            Named::Screen(_) => &self.screen,
+            Named::Screen(_) => &self.screen.canvas,
             Named::Bitmap(number) => self.bitmap(number),
         }
     }
@@ -175,12 +184,15 @@ impl Desk {
         ensures err { OnErr result (self.new ≡ carried (asked.Draw command.now) (wanting command.now.target ∷ []) self.old) }
         ensures meets { OnErr result (Meets self.old command.now (target_of command.now.target)) }
     {
+        is_seen_from_origin(&command.call);
         let others = Others {
             screen: None,
+            screen_at: self.screen.at,
             bitmaps: self.bitmaps.as_slice(),
             brushes: self.brushes.as_slice(),
         };
-        draw_beside(alloc, &mut self.screen, others, command)
+        let at = self.screen.at;
+        draw_beside(alloc, &mut self.screen.canvas, at, others, command)
     }
 
     /// The bitmap is out of its place while it is drawn on.
@@ -201,12 +213,14 @@ impl Desk {
             Some(target) => target,
             None => unreachable!(),
         };
+        is_seen_from_origin(&command.call);
         let others = Others {
-            screen: Some(&self.screen),
+            screen: Some(&self.screen.canvas),
+            screen_at: self.screen.at,
             bitmaps: self.bitmaps.as_slice(),
             brushes: self.brushes.as_slice(),
         };
-        let drawn = draw_beside(alloc, &mut target, others, command);
+        let drawn = draw_beside(alloc, &mut target, ORIGIN, others, command);
         self.bitmaps[place] = Some(target);
         drawn
     }

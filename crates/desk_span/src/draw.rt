@@ -3,28 +3,26 @@
 ghost use Rattle.std.specs.Prelude.{◌≡◌, ◌<◌, ◌≤◌, ◌*◌, ◌^◌, ◌↔◌, IsTrue, All, length, OnOk, OnErr};
 ghost use Rattle.std.specs.Option.{option_copied};
 ghost use Rattle.geom_base.specs.declared.point.Point.{Point};
-ghost use Rattle.geom_base.specs.Points.{HasPoints, IsIn, is_in_some, LiesIn, whole, most_side};
+ghost use Rattle.geom_base.specs.Points.{HasPoints, IsIn, is_in_some, LiesIn, moved, whole, most_side};
 ghost use Rattle.pix_format.specs.Value.{bits_of};
 ghost use Rattle.pix_format.specs.declared.rgb.Rgb.{Rgb};
 ghost use Rattle.surf_obj.specs.Surface.{changed};
-ghost use Rattle.brush_obj.specs.Calls.{new_of_copy};
-ghost use Rattle.brush_obj.specs.declared.draw_call.DrawCall.TheVariants.{Copy};
-ghost use Rattle.script_orders.specs.Asked.{MaskIsOther, RowIsCopied};
-ghost use Rattle.script_orders.specs.declared.desk_command.Feed.TheVariants.{Row};
-ghost use Rattle.desk_span.specs.Desk.{State, area_of, new_of};
+ghost use Rattle.brush_obj.specs.Calls.{PointMovesBack, new_of_call, new_of_copy, src_of};
+ghost use Rattle.script_orders.specs.Asked.{MaskIsOther};
+ghost use Rattle.desk_span.specs.Desk.{MayStandAt, State, area_of, new_of, operands_of};
 ghost use Rattle.desk_span.specs.Meeting.{Reaches};
-ghost use Rattle.desk_span.specs.InnerBeside.{DrawsOn, IsBeside, IsNoRow, WasMade};
+ghost use Rattle.desk_span.specs.InnerBeside.{CanBeSeen, DrawsOn, IsBeside, IsNoRow, WasMade, stand_of};
 ghost use Rattle.desk_span.specs.InnerDrawing.{holding};
 ghost use Rattle.desk_span.specs.InnerFrames.{LetsThrough};
-ghost use Rattle.desk_span.specs.InnerRows.{row_operands};
+ghost use Rattle.desk_span.specs.InnerRows.{CopiesRow, row_operands};
 
 use crate::canvas::Canvas;
 use crate::inputs::CanvasInputs;
 use crate::others::{BLACK, Others, is_own, plain_colour};
-use crate::row::{ORIGIN, columns_between};
-use brush_obj::{BltCall, BrushObj, CopyCall, DrawCall};
+use crate::place::{ORIGIN, origin_from};
+use brush_obj::{BltCall, BrushObj, CopyCall, DrawCall, calls_move};
 use clip_obj::ClipObj;
-use geom_base::Rect;
+use geom_base::{Point, Rect, distance};
 use region::Region;
 use script_orders::{DeskCommand, Feed, NamedRegion};
 use std::alloc::{AllocError, Global};
@@ -49,7 +47,7 @@ fn meets(clip: Option<&Region>, frame: &Rect) -> bool
     }
 }
 
-/// Carries out a drawing on a surface, beside the rest of the desk.
+/// Carries out a drawing on a surface that stands at a point, beside the rest of the desk.
 ///
 /// # Errors
 ///
@@ -57,37 +55,44 @@ fn meets(clip: Option<&Region>, frame: &Rect) -> bool
 pub fn draw_beside(
     alloc: Global,
     target: &mut Canvas,
+    at: Point,
     others: Others<'_>,
     command: &DeskCommand,
 ) -> Result<(), AllocError>
     requires can { DrawsOn target.old command.now }
     requires made { WasMade (length others.brushes.now) command.now.brush }
+    requires place { MayStandAt at }
+    requires seen { CanBeSeen command.now.call at (stand_of others.screen_at command.now.source) }
     ensures ok { OnOk result ((s : State) → IsBeside s command.now.target target.old others.entry →
-        target.new ≡ changed (new_of s command.now target.old) (area_of command.now) target.old) }
+        target.new ≡ changed (λ p. new_of s command.now target.old (moved p at)) (λ p. area_of command.now (moved p at)) target.old) }
     ensures err { OnErr result (target.new ≡ target.old) }
-    ensures meets { OnErr result (Reaches (area_of command.now) target.old.size) }
+    ensures meets { OnErr result (Reaches (λ p. area_of command.now (moved p at)) target.old.size) }
 {
+    calls_move();
+    let call = command.call.shifted(origin_from(at));
+    let frame = call.rect().cut_to(target.size());
+    let asked = frame.shifted(at);
     let region = region_of(&command.clip);
-    let frame = command.call.rect().cut_to(target.size());
-    if !meets(region, &frame) {
+    if !meets(region, &asked) {
         return Ok(());
     }
-    let mut clip = ClipObj::build(alloc, region, frame)?;
+    let mut clip = ClipObj::build_at(alloc, region, asked, at)?;
     if let Feed::Row(values) = &command.source {
-        return match &command.call {
+        return match &call {
             DrawCall::Copy(call) => {
                 draw_row(alloc, target, call, values.items(), &frame, &mut clip)
             }
             _ => unreachable!(),
         };
     }
-    draw_call(alloc, target, others, command, &mut clip)
+    draw_call(alloc, target, &call, others, command, &mut clip)
 }
 
-/// Draws a call in the rectangles of a clip that lies in the surface.
+/// Draws a command's call, which has the surface's own coordinates, in the rectangles of a clip that lies in the surface.
 fn draw_call(
     alloc: Global,
     target: &mut Canvas,
+    call: &DrawCall,
     others: Others<'_>,
     command: &DeskCommand,
     clip: &mut ClipObj,
@@ -95,9 +100,10 @@ fn draw_call(
     requires other { MaskIsOther command.now.target command.now.mask }
     requires made { WasMade (length others.brushes.now) command.now.brush }
     requires source { IsNoRow command.now.source }
+    requires moves { PointMovesBack (src_of call.now) (stand_of others.screen_at command.now.source) }
     requires inside { All (λ r. LiesIn r target.old.size) clip.old.rects }
     ensures ok { OnOk result ((s : State) → IsBeside s command.now.target target.old others.entry →
-        target.new ≡ changed (new_of s command.now target.old) (λ p. is_in_some p clip.old.rects) target.old) }
+        target.new ≡ changed (new_of_call call.now (operands_of s command.now target.old)) (λ p. is_in_some p clip.old.rects) target.old) }
     ensures err { OnErr result (target.new ≡ target.old) }
 {
     let plain = BrushObj::solid(alloc, plain_colour(command.brush));
@@ -107,7 +113,9 @@ fn draw_call(
         brush: others.brush(command.brush, &plain),
         back: command.back,
     };
-    let call = holding(is_own(command.target, &command.source), &command.call);
+    calls_move();
+    let seen = call.lent_from(others.stand_of(&command.source));
+    let call = holding(is_own(command.target, &command.source), &seen);
     target.draw(alloc, &call, &inputs, clip)
 }
 
@@ -138,7 +146,7 @@ fn draw_row(
     frame: &Rect,
     clip: &mut ClipObj,
 ) -> Result<(), AllocError>
-    requires copied { RowIsCopied (Row values.now) (Copy call.now) }
+    requires copied { CopiesRow call.now values.now }
     requires fits { All (λ v. v < 2 ^ bits_of target.old.format) values.now }
     requires width { target.old.size.w ≤ most_side }
     requires places { length target.old.values ≡ target.old.size.w * target.old.size.h }
@@ -150,8 +158,8 @@ fn draw_row(
         target.new ≡ changed (new_of_copy call.now (row_operands target.old values.now back)) (λ p. is_in_some p clip.old.rects) target.old) }
     ensures err { OnErr result (target.new ≡ target.old) }
 {
-    let from = columns_between(&call.rect.left, &frame.left) as usize;
-    let len = columns_between(&frame.left, &frame.right) as usize;
+    let from = distance(call.rect.left, frame.left) as usize;
+    let len = distance(frame.left, frame.right) as usize;
     let row = target.row(alloc, &values[from..from + len])?;
     let part = CopyCall {
         target: call.target,

@@ -10,6 +10,7 @@ mod desk;
 mod draw;
 mod inputs;
 mod others;
+mod place;
 mod reports;
 mod row;
 

@@ -7,11 +7,13 @@ ghost use Rattle.script_orders.specs.Asked.{MaskIsOther};
 ghost use Rattle.geom_base.specs.declared.target.Target.{Target};
 ghost use Rattle.surf_obj.specs.Surface.{Surface};
 ghost use Rattle.desk_span.specs.Desk.{State, face_of, mask_surface};
-ghost use Rattle.desk_span.specs.InnerBeside.{IsBeside, IsNoRow, WasMade, is_own, plain_colour, source_surface};
+ghost use Rattle.desk_span.specs.InnerBeside.{IsBeside, IsNoRow, WasMade, is_own, plain_colour, stand_of, source_surface};
 ghost use Rattle.desk_span.specs.InnerDrawing.{held_for, source_held};
 
 use crate::canvas::Canvas;
+use crate::place::ORIGIN;
 use brush_obj::BrushObj;
+use geom_base::Point;
 use pix_format::Rgb;
 use script_orders::{BrushUse, Feed, Spot};
 
@@ -20,6 +22,8 @@ use script_orders::{BrushUse, Feed, Spot};
 pub struct Others<'a> {
     /// The screen, where it isn't what is drawn on.
     pub screen: Option<&'a Canvas>,
+    /// Where the screen stands.
+    pub screen_at: Point,
     /// The bitmaps by their numbers; none in the place of the one that is drawn on.
     pub bitmaps: &'a [Option<Canvas>],
     pub brushes: &'a [BrushObj],
@@ -50,6 +54,16 @@ impl<'a> Others<'a> {
             Feed::Desk => self.screen,
             Feed::Bitmap(number) => self.bitmap(*number),
             _ => None,
+        }
+    }
+
+    /// The point at which the source of a drawing stands.
+    pub fn stand_of(self, feed: &Feed) -> Point
+        ensures { result ≡ stand_of self.entry.screen_at feed.now }
+    {
+        match feed {
+            Feed::Desk => self.screen_at,
+            _ => ORIGIN,
         }
     }
 

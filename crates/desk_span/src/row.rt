@@ -1,23 +1,12 @@
 //! Rows of values.
 
-ghost use Rattle.std.specs.Prelude.{◌≡◌, ◌≤ℤ◌, ◌<◌, ◌-ℤ◌, ◌^◌, pos, All, length};
+ghost use Rattle.std.specs.Prelude.{◌≡◌, ◌<◌, ◌^◌, All, length};
 ghost use Rattle.pix_format.specs.Value.{bits_of};
 ghost use Rattle.surf_obj.specs.Layout.{Holds, values_in};
 ghost use Rattle.surf_obj.specs.Lent.{format_of, size_of, values_of, OnlyPixels};
 
-use geom_base::Point;
+use crate::place::ORIGIN;
 use surf_obj::{Layout, LentSurf};
-
-/// The first point of a surface.
-pub const ORIGIN: Point = Point { x: 0, y: 0 };
-
-/// How many columns lie from one to before another.
-pub fn columns_between(from: &i32, to: &i32) -> u32
-    requires { from.now ≤ℤ to.now }
-    ensures { pos result ≡ to.now -ℤ from.now }
-{
-    (i64::from(*to) - i64::from(*from)) as u32
-}
 
 /// Puts values into bits that hold a surface of one row.
 pub fn put_values(bits: &mut [u8], layout: Layout, values: &[u32])

@@ -1,0 +1,70 @@
+//! Where surfaces stand.
+
+ghost use Rattle.std.specs.Prelude.{◌≡◌};
+ghost use Rattle.script_orders.specs.Rows.{zero_point};
+ghost use Rattle.brush_obj.specs.Calls.{PointMoves, PointMovesBack, RectMoves};
+ghost use Rattle.clip_obj.specs.Clip.{to_origin};
+ghost use Rattle.desk_span.specs.Desk.{MayStandAt};
+ghost use Rattle.desk_span.specs.InnerBeside.{CanBeSeen};
+
+use crate::canvas::Canvas;
+use brush_obj::DrawCall;
+use geom_base::{Point, Rect};
+
+/// The first point of a surface, and of the desk.
+pub const ORIGIN: Point = Point { x: 0, y: 0 };
+
+/// A screen of the desk.
+#[derive(Drop)]
+pub struct Screen {
+    pub canvas: Canvas,
+    /// The point of the desk that its first point is.
+    pub at: Point,
+}
+
+/// Where 0 0 is, seen from a point.
+pub fn origin_from(at: Point) -> Point
+    requires { MayStandAt at }
+    ensures { result ≡ to_origin at }
+{
+    Point {
+        x: 0 - at.x,
+        y: 0 - at.y,
+    }
+}
+
+/// The coordinates of a call are numbers of 32 bits, and stay so where nothing is moved.
+pub fn is_seen_from_origin(call: &DrawCall)
+    ensures { CanBeSeen call.now zero_point zero_point }
+{
+    match call {
+        DrawCall::Blt(call) => {
+            edges_fit(&call.rect);
+            point_fits(&call.origin);
+            point_fits(&call.src);
+        }
+        DrawCall::Copy(call) => {
+            edges_fit(&call.rect);
+            point_fits(&call.src);
+        }
+        DrawCall::Paint(call) => {
+            edges_fit(&call.rect);
+            point_fits(&call.origin);
+        }
+    }
+}
+
+/// The edges of a rectangle are numbers of 32 bits.
+fn edges_fit(rect: &Rect)
+    ensures { RectMoves rect.now (to_origin zero_point) }
+{
+    let _edges = (rect.left, rect.top, rect.right, rect.bottom);
+}
+
+/// The coordinates of a point are numbers of 32 bits.
+fn point_fits(p: &Point)
+    ensures moves { PointMoves p.now (to_origin zero_point) }
+    ensures back { PointMovesBack p.now zero_point }
+{
+    let _coordinates = (p.x, p.y);
+}
