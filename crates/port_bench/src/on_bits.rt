@@ -2,17 +2,18 @@
 
 ghost use Rattle.std.specs.Prelude.{◌≡◌, All, IfOk, length};
 ghost use Rattle.geom_base.specs.Points.{LiesIn};
+ghost use Rattle.pix_format.specs.Value.{colours_of};
 ghost use Rattle.surf_obj.specs.Layout.{Holds};
 ghost use Rattle.brush_obj.specs.Calls.{HoldsOwn, held_of, target_of};
 ghost use Rattle.eng_calls.specs.Inputs.{Suits};
 
 use crate::operations::{SIZE, sum_of};
-use brush_obj::DrawCall;
+use brush_obj::{BrushObj, DrawCall};
 use clip_obj::ClipObj;
 use eng_calls::{Inputs, eng_draw};
 use geom_base::Point;
-use pix_format::Format;
-use port_stage::{Tools, copy_call, paint_call};
+use pix_format::{ColourTable, Format};
+use port_stage::{Tools, WHITE, copy_call, paint_call};
 use rop_mix::Mix;
 use std::alloc::{AllocError, Global};
 use surf_obj::{Layout, SurfObj};
@@ -21,16 +22,30 @@ const ZERO: Point = Point { x: 0, y: 0 };
 
 /// A paint in white of a whole surface so often, and the sum of what it shows then.
 pub fn painted(alloc: Global, format: Format, count: u32) -> Result<u32, AllocError> {
+    let table = ColourTable::standard(alloc, format)?;
+    let brush = BrushObj::solid(alloc, WHITE);
+    painted_with(alloc, format, &table, &brush, count)
+}
+
+/// The same with a brush.
+fn painted_with<'a>(
+    alloc: Global,
+    format: Format,
+    table: &'a ColourTable,
+    brush: &'a BrushObj,
+    count: u32,
+) -> Result<u32, AllocError>
+    requires { length table.now ≡ colours_of format }
+{
     let Some(mix) = Mix::of(13) else {
         return Err(AllocError);
     };
-    let tools = Tools::new(alloc, SIZE, format, format)?;
     let inputs = Inputs {
         source: None,
         mask: None,
         xlate: None,
-        table: &tools.table,
-        brush: Some(&tools.solid),
+        table,
+        brush: Some(brush),
     };
     let call = DrawCall::Paint(paint_call(SIZE, mix));
     summed(alloc, format, &call, &inputs, count)
