@@ -22,19 +22,6 @@ use Rattle.desk_span.specs.Desk.{IsStand, MayStandAt, area_of, in_clip}
 use Rattle.desk_span.specs.InnerFrames.{LetsThrough}
 use Rattle.desk_span.specs.Meeting.{Reaches}
 
--- a rectangle with points that are another's lies within it
-pub within_edges : (r s : Rect) → ((p : Point) → IsIn p r → IsIn p s) → HasPoints r → LiesWithin s r
-within_edges r s inside h =
-    let w = lies_between r s inside h in
-    record {
-      left = w.left;
-      across = omega (arith, ints, h.across);
-      right = w.right;
-      top = w.top;
-      down = omega (arith, ints, h.down);
-      bottom = w.bottom;
-    }
-
 -- rectangles within one that lies in a surface lie there
 all_lie_in : (frame : Rect) (size : Size) (rects : List Rect) → LiesIn frame size → All (LiesWithin frame) rects → All (λ r. LiesIn r size) rects
 all_lie_in frame size rects f all k d lt =

@@ -29,7 +29,8 @@ use Rattle.script_orders.specs.Asked.{RowIsCopied}
 use Rattle.script_orders.specs.Rows.{row_end}
 use Rattle.script_orders.specs.declared.desk_command.Feed.TheVariants.{Row}
 use Rattle.desk_span.specs.InnerRows.{CopiesRow, row_operands}
-use Rattle.desk_span.proofs.FrameLemmas.{IsFrameOf, within_edges}
+use Rattle.clip_obj.specs.ClipLaws.{lies_within}
+use Rattle.desk_span.proofs.FrameLemmas.{IsFrameOf}
 
 -- what a row gives a point that belongs to its place n
 row_gives : (t : Surface) (vs : List ℕ) (back : Rgb) (q : Point) (n : ℕ) → q ≡ point_at n 0 → n < length vs →
@@ -98,11 +99,11 @@ module _ (t : Surface) (call : CopyCall) (values : List ℕ) (frame : Rect) (fro
     (common : IsFrameOf frame call.rect t.size) (some : HasPoints frame)
     (first : pos from ≡ frame.left -ℤ call.rect.left) (wide : pos len ≡ frame.right -ℤ frame.left) where
   within : LiesWithin call.rect frame
-  within = within_edges frame call.rect (λ p h. ((common p).0 h).0) some
+  within = lies_within frame call.rect (λ p h. ((common p).0 h).0) some
 
   pub row_fits : (1 ≤ len) × (len ≤ t.size.w) × (from + len ≤ length values)
   row_fits =
-      let on = within_edges frame (whole t.size) (λ p h. ((common p).0 h).1) some in
+      let on = lies_within frame (whole t.size) (λ p h. ((common p).0 h).1) some in
       let edge = copied.across in (
         omega (arith, ints, some.across, wide),
         omega (arith, ints, on.left, on.right, wide),

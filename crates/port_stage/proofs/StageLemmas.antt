@@ -10,6 +10,7 @@ use Rattle.geom_base.specs.declared.size.Size.{Size}
 use Rattle.geom_base.specs.PointLaws.{is_in-IsIn}
 use Rattle.geom_base.specs.Points.{HasSides, LiesIn, is_in, is_in_some, point_at, whole}
 use Rattle.clip_obj.specs.Clip.{Clip, LiesWithin}
+use Rattle.clip_obj.specs.ClipLaws.{all_in, clip_in}
 use Rattle.geom_base.specs.declared.target.Target.TheVariants.{Bitmap, Screen}
 use Rattle.pix_format.specs.declared.format.Format.{Format}
 use Rattle.pix_format.specs.declared.format.Format.TheVariants.{B1}
@@ -32,35 +33,11 @@ use Rattle.mem_port.specs.Port.{state_of}
 use Rattle.mem_port.specs.declared.mem_port.MemPort.{MemPort}
 use Rattle.port_stage.specs.Stage.{IsPlain, IsStage}
 
--- a point of rectangles within a frame is in the frame
-pub clip_in : (frame : Rect) (rects : List Rect) (p : Point) → All (LiesWithin frame) rects → IsTrue (is_in_some p rects) → IsTrue (is_in p frame)
-clip_in frame [] p all t = absurd (false≢true t)
-clip_in frame (r ∷ rects) p all t = at (is_in p r) refl (λ u. clip_in frame rects p (All-tail (LiesWithin frame) r rects all) u)
-  where
-    inside : IsTrue (is_in p r) → IsTrue (is_in p frame)
-    inside t =
-        let h = (is_in-IsIn p r).0 t in
-        let w = All-head (LiesWithin frame) r rects all in
-        (is_in-IsIn p frame).1 (record {
-          from_left = omega (arith, ints, h.from_left, w.left);
-          to_right = omega (arith, ints, h.to_right, w.right);
-          from_top = omega (arith, ints, h.from_top, w.top);
-          to_bottom = omega (arith, ints, h.to_bottom, w.bottom);
-        })
-
-    at : (b : Bool) → is_in p r ≡ b → (IsTrue (is_in_some p rects) → IsTrue (is_in p frame)) → IsTrue (is_in p frame)
-    at true e k = inside e
-    at false e k = k (subst (λ b. IsTrue (b || is_in_some p rects)) e t)
-
+-- a point of a clip is in the frame that is its bounds
 pub reaches : (c : Clip) (frame : Rect) (p : Point) → c.bounds ≡ frame → IsTrue (is_in_some p c.rects) → IsTrue (is_in p frame)
 reaches c frame p is t = subst (λ f. IsTrue (is_in p f)) is (clip_in c.bounds c.rects p c.inside t)
 
--- and rectangles within a surface lie in it
-all_in : (size : Size) (rects : List Rect) → All (LiesWithin (whole size)) rects → All (λ r. LiesIn r size) rects
-all_in size rects all k d lt =
-    let w = all k d lt in
-    record { left = w.left; across = w.across; right = w.right; top = w.top; down = w.down; bottom = w.bottom }
-
+-- and its rectangles lie on the surface whose whole that is
 pub lies_in : (c : Clip) (size kept : Size) → c.bounds ≡ whole size → kept ≡ size → All (λ r. LiesIn r kept) c.rects
 lies_in c size kept is same = rw same (all_in size c.rects (subst (λ f. All (LiesWithin f) c.rects) is c.inside))
 

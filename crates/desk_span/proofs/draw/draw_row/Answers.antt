@@ -3,7 +3,7 @@ use Rattle.std.proofs.lemmas.Int.{to_z-of_z}
 use Rattle.std.proofs.lemmas.List.Elements.{All-drop, All-take}
 use Rattle.std.proofs.lemmas.Result.{on_ok_weaker}
 use Rattle.pix_format.specs.Value.{bits_of, black}
-use Rattle.desk_span.proofs.FrameLemmas.{within_edges}
+use Rattle.clip_obj.specs.ClipLaws.{lies_within}
 use Rattle.desk_span.proofs.RowCopyLemmas.{columns, row_copied, row_fits, taken_long}
 use Rattle.desk_span.proofs.draw.draw_row.Goals as goal
 
@@ -12,14 +12,14 @@ distance-from-requires c =
     let edge : FitsSigned w32 c.args.call.now.rect.left = search rules in
     let left : FitsSigned w32 c.args.frame.now.left = search rules in
     rw (to_z-of_z w32 c.args.call.now.rect.left edge, to_z-of_z w32 c.args.frame.now.left left)
-    (within_edges c.args.frame.now c.args.call.now.rect (λ p h. ((c.requires.frame p).0 h).0) c.requires.some).left
+    (lies_within c.args.frame.now c.args.call.now.rect (λ p h. ((c.requires.frame p).0 h).0) c.requires.some).left
 
 pub distance-len-requires : goal.distance-len-requires
 distance-len-requires c =
     let left : FitsSigned w32 c.args.frame.now.left = search rules in
     let right : FitsSigned w32 c.args.frame.now.right = search rules in
     rw (to_z-of_z w32 c.args.frame.now.left left, to_z-of_z w32 c.args.frame.now.right right)
-    (within_edges c.args.frame.now c.args.call.now.rect (λ p h. ((c.requires.frame p).0 h).0) c.requires.some).across
+    (lies_within c.args.frame.now c.args.call.now.rect (λ p h. ((c.requires.frame p).0 h).0) c.requires.some).across
 
 pub slice_bounds-row-end : goal.slice_bounds-row-end
 slice_bounds-row-end c =
