@@ -68,10 +68,9 @@ pub trait DisplayDriver: CopyPort + Realizer + Drop {
         requires size { IsTargetSize size }
         ensures { Creates size (Self.state self.old) (Self.state self.new) result };
 
-    /// Gives up a bitmap that it keeps.
+    /// Gives up a bitmap that it keeps. It is called for no other one, of which nothing is promised.
     fn delete_device_bitmap(&mut self, id: u32)
-        requires { HasBitmap (Self.state self.old).shown id }
-        ensures { Deletes id (Self.state self.old) (Self.state self.new) };
+        ensures { HasBitmap (Self.state self.old).shown id → Deletes id (Self.state self.old) (Self.state self.new) };
 
     /// Draws a raster operation by the hook contract.
     fn bit_blt(
