@@ -1,5 +1,5 @@
 -- Laws of drawings on the targets of a driver.
-use Rattle.std.proofs.Common.{◌≡◌, ◌∙◌, ℕ, ◌+◌, ◌<◌, ◌≤◌, Bool, true, false, ◌||◌, if◌then◌else◌, IsTrue, List, [], length, refl, ap, sym, subst, arith}
+use Rattle.std.proofs.Common.{◌≡◌, ◌∙◌, ℕ, ◌+◌, ◌<◌, ◌≤◌, Bool, true, false, ◌||◌, if◌then◌else◌, cond, IsTrue, List, [], ◌∷◌, length, refl, ap, sym, subst, arith}
 use Rattle.std.proofs.Common.{is_some, unwrap_or, true≢false, le_refl, Option, Some, None, option_map, eqb-true}
 use Rattle.geom_base.specs.declared.point.Point.{Point}
 use Rattle.geom_base.specs.declared.port_answer.PortAnswer.{PortAnswer}
@@ -8,8 +8,8 @@ use Rattle.geom_base.specs.declared.rect.Rect.{Rect}
 use Rattle.geom_base.specs.declared.size.Size.{Size}
 use Rattle.geom_base.specs.declared.target.Target.{Target}
 use Rattle.geom_base.specs.declared.target.Target.TheVariants.{Screen, Bitmap}
-use Rattle.geom_base.specs.Drawn.{Drawn}
-use Rattle.geom_base.specs.Points.{is_in_some}
+use Rattle.geom_base.specs.Drawn.{Drawn, continues, joined, pushed}
+use Rattle.geom_base.specs.Points.{is_in, is_in_some}
 use Rattle.geom_base.specs.Step.{Area, Change, nowhere, redrawn}
 use Rattle.surf_obj.specs.RectLaws.{redrawn_twice}
 use Rattle.surf_obj.specs.Rects.{as_in_at}
@@ -220,4 +220,30 @@ draws_part t new a b m n before after d e answer refused wider le h = record {
   rest = h.rest;
   later = h.later;
   cause = h.cause;
+}
+
+-- a rectangle that was pushed is an entry more at most
+longer-pushed : (rects : List Rect) (r : Rect) → length rects ≤ length (pushed rects r)
+longer-pushed [] r = omega arith
+longer-pushed (last ∷ []) r = either (continues last r)
+  where
+    either : (b : Bool) → 1 ≤ length (cond b (joined last r ∷ []) (last ∷ r ∷ []))
+    either true = le_refl _
+    either false = omega arith
+longer-pushed (s ∷ t ∷ rects) r = let h = longer-pushed (t ∷ rects) r in omega (arith, h)
+
+-- a rectangle was drawn whole, and pushed
+pub draws_rect : (t : Target) (new : Change) (r : Rect) (most : ℕ) (before after : PortState) (d e : Drawn) →
+    after.shown ≡ drawn_on t new (λ p. is_in p r) before.shown → after.rest ≡ before.rest → before.faults ≤ after.faults → 1 ≤ most →
+    e.rects ≡ pushed d.rects r → ((p : Point) → is_in_some p e.rects ≡ (is_in_some p d.rects || is_in p r)) → d.spare ≤ e.spare + 1 →
+    length d.rects + d.spare ≤ length e.rects + e.spare → Draws t new (λ p. is_in p r) most before after d e Done
+draws_rect t new r most before after d e shown rest later least rects points spare room = record {
+  more = λ p. is_in p r;
+  pushes = record { points = points; spare = omega (arith, spare, least); room = room; longer = rw rects (longer-pushed d.rects r) };
+  within = λ p h. h;
+  shown = shown;
+  done = λ p. refl;
+  rest = rest;
+  later = later;
+  cause = tt;
 }

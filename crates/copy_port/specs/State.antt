@@ -1,11 +1,14 @@
 -- What a driver shows, and what it counts and keeps beside that.
-use Rattle.std.specs.Prelude.{◌≡◌, ℕ, ◌+◌, ◌-◌, ◌*◌, ◌%◌, ◌^◌, ◌≤◌, min, Bool, true, false, IsTrue, is_some, if◌then◌else◌, nat_eq, List, [], length, Option, Some, option_map, unwrap_or}
+use Rattle.std.specs.Prelude.{◌≡◌, ℕ, ◌+◌, ◌-◌, ◌*◌, ◌%◌, ◌^◌, ◌≤◌, min, Bool, true, false, IsTrue, is_some, if◌then◌else◌, nat_eq, List, [], length, replicate}
+use Rattle.std.specs.Prelude.{Option, Some, option_map, unwrap_or}
 use Rattle.geom_base.specs.declared.size.Size.{Size}
 use Rattle.geom_base.specs.declared.target.Target.{Target}
 use Rattle.geom_base.specs.declared.target.Target.TheVariants.{Screen, Bitmap}
 use Rattle.geom_base.specs.Points.{HasSides}
 use Rattle.geom_base.specs.Step.{Area, Change}
+use Rattle.pix_format.specs.declared.format.Format.{Format}
 use Rattle.pix_format.specs.declared.format.Format.TheVariants.{B32}
+use Rattle.pix_format.specs.declared.rgb.Rgb.{Rgb}
 use Rattle.pix_format.specs.Value.{colours_of}
 use Rattle.surf_obj.specs.Surface.{Surface, changed}
 use Rattle.copy_port.specs.declared.classes.Class.{Class}
@@ -44,6 +47,10 @@ pub record IsSurface (s : Surface) : Type 0 where
   pub sides : HasSides s.size
   pub colours : length s.table ≡ colours_of s.format
   pub count : length s.values ≡ s.size.w * s.size.h
+
+-- a surface whose values are all 0
+abbrev pub blank : Size → Format → List Rgb → Surface
+blank size format table = record { size = size; format = format; table = table; values = replicate (size.w * size.h) 0 }
 
 -- what no call of a port or a realizer changes: what a driver is and does, the counts of its calls, in how many parts it may draw a rectangle,
 -- and what else it must still know after a managed call on itself

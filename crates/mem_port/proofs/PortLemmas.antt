@@ -1,6 +1,6 @@
 -- What the calls of a port over memory draw.
 use Rattle.std.proofs.Common.{◌≡◌, ◌∙◌, ℕ, ℤ, pos, ◌+◌, ◌*◌, ◌<◌, ◌≤◌, ◌+ℤ◌, ◌-ℤ◌, ◌≤ℤ◌, ◌<ℤ◌, Bool, true, false, ◌||◌, ◌==◌, IsTrue, if◌then◌else◌}
-use Rattle.std.proofs.Common.{List, [], ◌∷◌, length, take, refl, ap, sym, arith, le_refl, le_of_eq, true≢false, cond, Some, unsigned_abs}
+use Rattle.std.proofs.Common.{List, length, take, refl, ap, sym, arith, le_refl, le_of_eq, true≢false, Some, unsigned_abs}
 use Rattle.std.proofs.lemmas.Int.{ints}
 use Rattle.std.proofs.lemmas.List.{get_or-take, length-take-le}
 use Rattle.std.proofs.Math.Nat.{mul-le-mul_left}
@@ -10,13 +10,13 @@ use Rattle.geom_base.specs.declared.port_answer.PortAnswer.TheVariants.{Done, Fa
 use Rattle.geom_base.specs.declared.rect.Rect.{Rect}
 use Rattle.geom_base.specs.declared.size.Size.{Size}
 use Rattle.geom_base.specs.declared.target.Target.{Target}
-use Rattle.geom_base.specs.Drawn.{Drawn, continues, joined, pushed}
+use Rattle.geom_base.specs.Drawn.{Drawn, pushed}
 use Rattle.geom_base.specs.PointLaws.{is_in-IsIn}
 use Rattle.geom_base.specs.Points.{HasPoints, height_of, is_in, is_in_some, no_rect, sides_of, width_of}
 use Rattle.geom_base.specs.Step.{Area, Change, nowhere}
 use Rattle.surf_obj.specs.RectLaws.{redrawn_agree}
 use Rattle.surf_obj.specs.Rects.{with_values}
-use Rattle.copy_port.specs.Laws.{drawn_on-nowhere, drawn_on-same, pushes_none}
+use Rattle.copy_port.specs.Laws.{draws_rect, drawn_on-nowhere, drawn_on-same, pushes_none}
 use Rattle.copy_port.specs.Port.{Draws, InTarget, Keeps}
 use Rattle.copy_port.specs.State.{PortState, Rose, Shown, drawn_on}
 use Rattle.mem_port.specs.Calls.{next_fault, part_of, pushed_of}
@@ -61,32 +61,6 @@ fault_draws t new area most a b c d f g written written' m n list screen bitmap 
   rest = ap rest_of cuts;
   later = later;
   cause = rose;
-}
-
--- a rectangle that was pushed is an entry more at most
-pub longer-pushed : (rects : List Rect) (r : Rect) → length rects ≤ length (pushed rects r)
-longer-pushed [] r = omega arith
-longer-pushed (last ∷ []) r = either (continues last r)
-  where
-    either : (b : Bool) → 1 ≤ length (cond b (joined last r ∷ []) (last ∷ r ∷ []))
-    either true = le_refl _
-    either false = omega arith
-longer-pushed (s ∷ t ∷ rects) r = let h = longer-pushed (t ∷ rects) r in omega (arith, h)
-
--- points were drawn and pushed as a rectangle
-pub rect_draws : (t : Target) (new : Change) (r : Rect) (most : ℕ) (before after : PortState) (d e : Drawn) →
-    after.shown ≡ drawn_on t new (λ p. is_in p r) before.shown → after.rest ≡ before.rest → before.faults ≤ after.faults → 1 ≤ most →
-    e.rects ≡ pushed d.rects r → ((p : Point) → is_in_some p e.rects ≡ (is_in_some p d.rects || is_in p r)) → d.spare ≤ e.spare + 1 →
-    length d.rects + d.spare ≤ length e.rects + e.spare → Draws t new (λ p. is_in p r) most before after d e Done
-rect_draws t new r most before after d e shown rest later least rects points spare room = record {
-  more = λ p. is_in p r;
-  pushes = record { points = points; spare = omega (arith, spare, least); room = room; longer = rw rects (longer-pushed d.rects r) };
-  within = λ p h. h;
-  shown = shown;
-  done = λ p. refl;
-  rest = rest;
-  later = later;
-  cause = tt;
 }
 
 -- a fault after some of the points were drawn
@@ -183,7 +157,7 @@ pub row_draws : (t : Target) (r row : Rect) (size : Size) (from : List ℕ) (bef
     e.rects ≡ pushed d.rects row → ((p : Point) → is_in_some p e.rects ≡ (is_in_some p d.rects || is_in p row)) → d.spare ≤ e.spare + 1 →
     length d.rects + d.spare ≤ length e.rects + e.spare → Draws t (with_values r from) (λ p. is_in p (row_of r)) 1 before after d e Done
 row_draws t r row size from before after d e is sides shown rest later rects points spare room =
-    rect_draws t (with_values r from) (row_of r) 1 before after d e (row_shown t r row size from before.shown after.shown is sides shown) rest later
+    draws_rect t (with_values r from) (row_of r) 1 before after d e (row_shown t r row size from before.shown after.shown is sides shown) rest later
     (le_refl 1) (rects ∙ ap (pushed d.rects) is) (λ p. points p ∙ ap (λ (q : Rect). is_in_some p d.rects || is_in p q) is) spare room
 
 -- what a write draws and pushes by its number

@@ -1,8 +1,4 @@
 -- What a surface in memory shows.
-use Rattle.std.proofs.Common.{◌*◌, List, replicate}
-use Rattle.geom_base.specs.declared.size.Size.{Size}
-use Rattle.pix_format.specs.declared.format.Format.{Format}
-use Rattle.pix_format.specs.declared.rgb.Rgb.{Rgb}
 use Rattle.surf_obj.specs.LayoutLaws.{length-values_in}
 use Rattle.surf_obj.specs.Object.{object_bytes, object_format, object_layout, object_size, object_values}
 use Rattle.surf_obj.specs.Surface.{Surface}
@@ -11,10 +7,6 @@ use Rattle.mem_port.specs.declared.mem_surf.MemSurf.{MemSurf}
 
 abbrev pub surface_in : MemSurf → Surface
 surface_in s = record { size = object_size s.pixels; format = object_format s.pixels; table = s.table; values = object_values s.pixels }
-
--- a surface whose values are all 0
-abbrev pub blank : Size → Format → List Rgb → Surface
-blank size format table = record { size = size; format = format; table = table; values = replicate (size.w * size.h) 0 }
 
 -- it is a surface
 pub surface_in-sound : (s : MemSurf) → IsSurface (surface_in s)

@@ -134,8 +134,8 @@ impl MemPort {
     ghost use Rattle.surf_obj.specs.View.{view_format, view_size, view_values};
     ghost use Rattle.geom_base.specs.declared.port_answer.PortAnswer.TheVariants as answers;
     ghost use Rattle.copy_port.specs.Port.{Draws, InTarget};
-    ghost use Rattle.copy_port.specs.State.{IsLive, drawn_on, surface_of};
-    ghost use Rattle.mem_port.specs.Memory.{blank, surface_in};
+    ghost use Rattle.copy_port.specs.State.{IsLive, blank, drawn_on, surface_of};
+    ghost use Rattle.mem_port.specs.Memory.{surface_in};
     ghost use Rattle.mem_port.specs.Calls.{Counted, HasCuts, IsNew, SameButFaults, SameCounts, fails_at, next_fault};
     ghost use Rattle.mem_port.specs.Port.{state_of};
 

@@ -28,7 +28,8 @@ impl MemSurf {
     ghost use Rattle.surf_obj.specs.Rects.{ReadsRect, with_values};
     ghost use Rattle.surf_obj.specs.Surface.{changed};
     ghost use Rattle.surf_obj.specs.View.{view_format, view_size, view_values};
-    ghost use Rattle.mem_port.specs.Memory.{blank, surface_in};
+    ghost use Rattle.copy_port.specs.State.{blank};
+    ghost use Rattle.mem_port.specs.Memory.{surface_in};
 
     /// A surface whose values are all 0.
     ///

@@ -1,12 +1,13 @@
 use Rattle.std.proofs.Common.{◌∙◌, ap, arith, sym}
 use Rattle.geom_base.specs.Points.{is_in}
+use Rattle.copy_port.specs.Laws.{draws_rect}
 use Rattle.copy_port.specs.State.{drawn_on}
 use Rattle.surf_obj.specs.Rects.{with_values}
 use Rattle.mem_port.specs.Calls.{breaks_at, fails_at}
 use Rattle.mem_port.specs.Rows.{row_of}
 use Rattle.mem_port.specs.Port.{rest_of}
 use Rattle.mem_port.proofs.PortLemmas.{broken_draws, drawn_part, fault_draws, holds_at, part_broken, part_failed, part_whole}
-use Rattle.mem_port.proofs.PortLemmas.{pushed_failed, pushed_part, rect_draws, rose_before, rose_of, row_within, same_shown}
+use Rattle.mem_port.proofs.PortLemmas.{pushed_failed, pushed_part, rose_before, rose_of, row_within, same_shown}
 use Rattle.mem_port.proofs.mem_port.MemPortCopyPort.write_rect.Goals as goal
 
 pub returns-then-fails_now-clause-draws : goal.returns-then-fails_now-clause-draws
@@ -25,7 +26,7 @@ returns-then-holds-clause-draws c =
 pub returns-clause-draws : goal.returns-clause-draws
 returns-clause-draws c =
     let h = c.fails_now.ensures.counted in
-    rect_draws _ _ _ _ _ _ _ _
+    draws_rect _ _ _ _ _ _ _ _
     (c.set_rect.ensures.shown ∙ ap (drawn_on c.args.target (with_values c.args.rect c.args.from.now) (λ p. is_in p c.args.rect))
     (same_shown _ _ _ _ h.screen h.bitmap))
     (ap rest_of (c.set_rect.ensures.same.cuts ∙ h.cuts)) (omega (arith, h.later, c.set_rect.ensures.same.faults)) c.args.self.now.least
