@@ -44,6 +44,13 @@ impl RegionBuilder {
         }
     }
 
+    /// Makes room for so many rectangles more.
+    pub(crate) fn reserve(&mut self, more: usize) -> Result<(), AllocError>
+        ensures { (pushed : List Rect) (end : ℤ) → HasRows pushed end self.old → HasRows pushed end self.new }
+    {
+        self.list.reserve(more)
+    }
+
     /// Adds the spans to all rows from one to before another, below all rows so far.
     /// After want of memory nothing is known of the builder.
     pub fn push_row(&mut self, top: i32, bottom: i32, spans: &[Span]) -> Result<(), AllocError>
@@ -63,7 +70,7 @@ impl RegionBuilder {
 
     /// Adds the columns of two bands to all rows from one to before another, below all rows so far.
     #[inline(always)]
-    pub fn push_either(
+    pub(crate) fn push_either(
         &mut self,
         top: i32,
         bottom: i32,

@@ -70,7 +70,9 @@ pub fn region_of_list(list: BandList) -> Result<Region, RegionRefusal>
     if list.count > MOST_RECTS {
         return Err(RegionRefusal::TooMany(list.count));
     }
-    Ok(region_of_rects(list.rects))
+    let mut rects = list.rects;
+    rects.shrink_to_fit();
+    Ok(region_of_rects(rects))
 }
 
 /// The bands after an operation on the lists of two regions, of which so many rectangles are kept.

@@ -5,6 +5,7 @@ ghost use Rattle.geom_base.specs.Points.{is_in_some};
 ghost use Rattle.region.specs.Order.{IsInOrder};
 ghost use Rattle.region.specs.InnerUnion.{first_top, next_edge, AreNextRows, HasPointsOf, IsBelow, IsSteady, IsTurn};
 
+use crate::band_list::MOST_RECTS;
 use crate::builder::RegionBuilder;
 use crate::search::{Edge, count_until};
 use geom_base::Rect;
@@ -65,6 +66,7 @@ pub fn union_rows(alloc: Global, left: &[Rect], right: &[Rect]) -> Result<Region
     ensures { IfOk result (HasPointsOf (λ p. is_in_some p left.now || is_in_some p right.now)) }
 {
     let mut builder = RegionBuilder::new(alloc);
+    builder.reserve((left.len() + right.len()).min(MOST_RECTS as usize))?;
     let mut row = first_top(left).min(first_top(right));
     let mut a = left;
     let mut b = right;

@@ -15,8 +15,8 @@ loop-top-init c =
     let row_is : row ≡ int_min (first_top a) (first_top b) =
     grind (arith, to_z-of_z, c.min-row.ensures.value, c.first_top.ensures, c.first_top-2.ensures) in
     let fits : SFits w32 row = search rules in
-    joined_none a b row c.new-builder.result c.requires.left c.requires.right (omega (arith, ints, clamps, row_is)) (omega (arith, ints, clamps, row_is))
-    (rows_above [] first_row row c.new-builder.result c.new-builder.ensures (omega (arith, ints, fits)))
+    joined_none a b row c.reserve.new.self c.requires.left c.requires.right (omega (arith, ints, clamps, row_is)) (omega (arith, ints, clamps, row_is))
+    (rows_above [] first_row row c.reserve.new.self (c.reserve.ensures [] first_row c.new-builder.ensures) (omega (arith, ints, fits)))
 
 pub push_either-requires-clause-left : goal.push_either-requires-clause-left
 push_either-requires-clause-left c =
