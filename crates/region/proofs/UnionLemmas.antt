@@ -1,5 +1,5 @@
 -- The union of two regions, rows after rows.
-use Rattle.std.proofs.Common.{◌≡◌, ◌∙◌, ◌⊎◌, inl, inr, ℕ, ◌<◌, ◌≤◌, ◌*◌, zero, suc, ℤ, ◌<ℤ◌, ◌≤ℤ◌, pos, List, [], ◌∷◌, ◌++◌, take, drop, length, map, ◌+◌}
+use Rattle.std.proofs.Common.{◌≡◌, ◌∙◌, ◌⊎◌, inl, inr, ℕ, ◌<◌, ◌≤◌, ◌*◌, zero, suc, ℤ, ◌<ℤ◌, ◌≤ℤ◌, pos, List, [], ◌∷◌, ◌++◌, take, drop, length, map, get_or, ◌+◌}
 use Rattle.std.proofs.Common.{Bool, true, false, ◌&&◌, ◌||◌, if◌then◌else◌, refl, ap, sym, subst, arith, int_lt, int_le, length-drop, SFits, w32, to_z, of_z, Result}
 use Rattle.std.specs.Int.{int_min, int_max}
 use Rattle.std.specs.List.{All}
@@ -7,13 +7,13 @@ use Rattle.std.proofs.lemmas.Int.{ints, clamps, to_z-of_z}
 use Rattle.std.proofs.Math.Path.{fun_ext}
 use Rattle.std.proofs.lemmas.Bool.{false≢true}
 use Rattle.std.proofs.lemmas.List.Folds.{list_any-append}
-use Rattle.std.proofs.lemmas.List.Elements.{All-nil, All-head, All-take}
+use Rattle.std.proofs.lemmas.List.Elements.{All-nil, All-cons, All-head, All-tail, All-take, All-drop}
 use Rattle.geom_base.specs.declared.point.Point.{Point}
 use Rattle.geom_base.specs.declared.rect.Rect.{Rect}
 use Rattle.geom_base.specs.Points.{is_in, is_in_some, HasPoints, no_rect}
 use Rattle.region.specs.declared.search.Edge.TheVariants.{Top, Bottom}
 use Rattle.region.specs.declared.builder.RegionBuilder.{RegionBuilder}
-use Rattle.region.specs.Order.{IsInOrder}
+use Rattle.region.specs.Order.{ComesFirst, IsInOrder}
 use Rattle.region.specs.Spans.{in_spans, rects_of_spans}
 use Rattle.region.specs.Builder.{HasRows}
 use Rattle.region.specs.Refusal.{IsAnswer}
@@ -21,7 +21,7 @@ use Rattle.region.specs.declared.refusal.RegionRefusal.{RegionRefusal}
 use Rattle.region.specs.InnerCursor.{in_columns, IsAtRow}
 use Rattle.region.specs.InnerSpanList.{span_of}
 use Rattle.region.specs.InnerUnion.{first_top, next_edge, edges_left, IsBelow, IsSteady, AreNextRows, IsTurn, HasPointsOf, IsJoining}
-use Rattle.region.proofs.SearchLemmas.{later_from}
+use Rattle.region.proofs.SearchLemmas.{pairs_head, later_from}
 use Rattle.region.proofs.StepLemmas.{order, at_or_before, lt_is, ge_is}
 use Rattle.region.proofs.SpanLemmas.{span_rects_points}
 use Rattle.region.proofs.CursorLemmas.{in_order_drop, in_order_take, sorted_by_top, sorted_by_bottom, none_above, rows_rest, row_is, one_row_is_band}
@@ -116,7 +116,7 @@ less_edges row top bottom (r ∷ rects) zero h ahead some e = elim (at_or_before
 ]
 
 -- a turn
-pub turned : (row top bottom : ℤ) (rects here rest : List Rect) (n m : ℕ) → IsSteady row top bottom rects → n ≤ length rects →
+turned : (row top bottom : ℤ) (rects here rest : List Rect) (n m : ℕ) → IsSteady row top bottom rects → n ≤ length rects →
     All (λ r. r.top ≤ℤ top) (take n rects) → All (λ r. top <ℤ r.top) (drop n rects) → here ≡ take n rects →
     All (λ r. r.bottom ≤ℤ bottom) (take m rects) → All (λ r. bottom <ℤ r.bottom) (drop m rects) → rest ≡ drop m rects →
     IsTurn row top bottom rects here rest
@@ -135,6 +135,58 @@ turned row top bottom rects here rest n m h within begun later here_is ended ahe
       fewer = fewer_edges row bottom rects m le;
       less = less_edges row top bottom rects m h ahead;
     }))
+
+-- where the band ends with the rows, those below it are left
+band_ended : (row top bottom : ℤ) (r : Rect) (rects : List Rect) (n : ℕ) → IsSteady row top bottom (r ∷ rects) → r.top ≤ℤ top → r.bottom ≤ℤ bottom →
+    All (λ q. q.top ≤ℤ top) (take n rects) → All (λ q. q.bottom ≤ℤ bottom) (take n rects)
+band_ended row top bottom r rects n h begun ended tops = λ k d lt.
+    elim (All-take (ComesFirst r) n rects (pairs_head ComesFirst r rects h.left.order.order) k d lt) [
+      | inl e ↦ omega (arith, ints, e.1, ended)
+      | inr below ↦ absurd (omega (arith, ints, below, tops k d lt, begun_above row top bottom r rects h))
+    ]
+
+band_below : (row top bottom : ℤ) (r : Rect) (rects : List Rect) (n : ℕ) → IsSteady row top bottom (r ∷ rects) → r.top ≤ℤ top →
+    All (λ q. top <ℤ q.top) (drop n rects) → All (λ q. bottom <ℤ q.bottom) (drop n rects)
+band_below row top bottom r rects n h begun later = λ k d lt.
+    let ends : bottom ≤ℤ r.bottom = subst (λ b. bottom ≤ℤ (if b then r.bottom else r.top)) (is_le r.top top begun) h.ends in
+    let down = (All-drop HasPoints (suc n) (r ∷ rects) h.left.order.points k d lt).down in
+    elim (All-drop (ComesFirst r) n rects (pairs_head ComesFirst r rects h.left.order.order) k d lt) [
+      | inl e ↦ absurd (omega (arith, ints, e.0, begun, later k d lt))
+      | inr below ↦ omega (arith, ints, ends, below, down)
+    ]
+
+pub turned_below : (row top bottom : ℤ) (rects here rest : List Rect) (n : ℕ) → IsSteady row top bottom rects → n ≤ length rects →
+    All (λ r. r.top ≤ℤ top) (take n rects) → All (λ r. top <ℤ r.top) (drop n rects) → here ≡ take n rects → rest ≡ drop n rects →
+    1 ≤ length here → (get_or here 0 no_rect).bottom ≤ℤ bottom → IsTurn row top bottom rects here rest
+turned_below row top bottom rects here rest zero h within begun later here_is rest_is some ended = absurd (omega (arith, some, ap length here_is))
+turned_below row top bottom [] here rest (suc n) h within begun later here_is rest_is some ended = absurd (omega (arith, within))
+turned_below row top bottom (r ∷ rects) here rest (suc n) h within begun later here_is rest_is some ended =
+    let first : r.top ≤ℤ top = All-head (λ q. q.top ≤ℤ top) r (take n rects) begun in
+    let end : r.bottom ≤ℤ bottom = subst (λ l. (get_or l 0 no_rect).bottom ≤ℤ bottom) here_is ended in
+    turned row top bottom (r ∷ rects) here rest (suc n) (suc n) h within begun later here_is
+    (All-cons (λ q. q.bottom ≤ℤ bottom) r (take n rects) end
+    (band_ended row top bottom r rects n h first end (All-tail (λ q. q.top ≤ℤ top) r (take n rects) begun)))
+    (band_below row top bottom r rects n h first later) rest_is
+
+-- where it goes on, all are left
+all_below : (row top bottom : ℤ) (rects here : List Rect) (n : ℕ) → IsSteady row top bottom rects → All (λ r. top <ℤ r.top) (drop n rects) →
+    here ≡ take n rects → (1 ≤ length here → bottom <ℤ (get_or here 0 no_rect).bottom) → All (λ r. bottom <ℤ r.bottom) rects
+all_below row top bottom [] here n h later here_is goes_on = All-nil (λ r. bottom <ℤ r.bottom)
+all_below row top bottom (r ∷ rects) here zero h later here_is goes_on =
+    let first : top <ℤ r.top = All-head (λ q. top <ℤ q.top) r rects later in
+    let ends : bottom ≤ℤ r.top = subst (λ b. bottom ≤ℤ (if b then r.bottom else r.top)) (is_gt r.top top first) h.ends in
+    let down : r.top <ℤ r.bottom = (All-head HasPoints r rects h.left.order.points).down in
+    later_from Bottom (r ∷ rects) bottom 0 no_rect (sorted_by_bottom (r ∷ rects) h.left.order) (omega arith) (omega (arith, ints, ends, down))
+all_below row top bottom (r ∷ rects) here (suc n) h later here_is goes_on =
+    later_from Bottom (r ∷ rects) bottom 0 no_rect (sorted_by_bottom (r ∷ rects) h.left.order) (omega arith)
+    (subst (λ l. bottom <ℤ (get_or l 0 no_rect).bottom) here_is (goes_on (omega (arith, ap length here_is))))
+
+pub turned_on : (row top bottom : ℤ) (rects here : List Rect) (n : ℕ) → IsSteady row top bottom rects → n ≤ length rects →
+    All (λ r. r.top ≤ℤ top) (take n rects) → All (λ r. top <ℤ r.top) (drop n rects) → here ≡ take n rects →
+    (1 ≤ length here → bottom <ℤ (get_or here 0 no_rect).bottom) → IsTurn row top bottom rects here rects
+turned_on row top bottom rects here n h within begun later here_is goes_on =
+    turned row top bottom rects here rects n 0 h within begun later here_is (All-nil (λ r. r.bottom ≤ℤ bottom))
+    (all_below row top bottom rects here n h later here_is goes_on) refl
 
 -- the next rows
 

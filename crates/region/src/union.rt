@@ -53,9 +53,11 @@ fn turn<'a>(rects: &'a [Rect], top: &i32, bottom: &i32) -> (&'a [Rect], &'a [Rec
     requires { (row : ℤ) × IsSteady row top.now bottom.now rects.now }
     ensures { (row : ℤ) → IsSteady row top.now bottom.now rects.now → IsTurn row top.now bottom.now rects.now result.0.now result.1.now }
 {
-    let here = count_until(rects, Edge::Top, top);
-    let ended = count_until(rects, Edge::Bottom, bottom);
-    (rects.split_at(here).0, rects.split_at(ended).1)
+    let (here, below) = rects.split_at(count_until(rects, Edge::Top, top));
+    match here {
+        [first, ..] if first.bottom <= *bottom => (here, below),
+        _ => (here, rects),
+    }
 }
 
 /// The points of either of the lists of two regions.
@@ -66,7 +68,7 @@ pub fn union_rows(alloc: Global, left: &[Rect], right: &[Rect]) -> Result<Region
     ensures { IfOk result (HasPointsOf (λ p. is_in_some p left.now || is_in_some p right.now)) }
 {
     let mut builder = RegionBuilder::new(alloc);
-    builder.reserve((left.len() + right.len()).min(MOST_RECTS as usize))?;
+    builder.reserve((2 * (left.len() + right.len())).min(MOST_RECTS as usize))?;
     let mut row = first_top(left).min(first_top(right));
     let mut a = left;
     let mut b = right;
