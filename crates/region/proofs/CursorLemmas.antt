@@ -117,14 +117,14 @@ begins_rows z (r ∷ rects) h le =
 
 -- rows until the next edge
 
-between_bands : (y z : ℤ) (r : Rect) (rects : List Rect) → IsAtRow y (r ∷ rects) 0 → z <ℤ r.top → IsAtRow z (r ∷ rects) 0
+pub between_bands : (y z : ℤ) (r : Rect) (rects : List Rect) → IsAtRow y (r ∷ rects) 0 → z <ℤ r.top → IsAtRow z (r ∷ rects) 0
 between_bands y z r rects h lt = begins_rows z (r ∷ rects) h.order (omega (arith, ints, lt))
 
 past_band : (a b : Rect) (y z : ℤ) → ComesFirst a b → a.top ≤ℤ y → y <ℤ b.top → z <ℤ a.bottom → z <ℤ b.top
 past_band a b y z (inl e) begun later ahead = absurd (omega (arith, ints, e.0, begun, later))
 past_band a b y z (inr le) begun later ahead = omega (arith, ints, le, ahead)
 
-in_band : (y z : ℤ) (r : Rect) (rects : List Rect) (n : ℕ) → IsAtRow y (r ∷ rects) (suc n) → y ≤ℤ z → z <ℤ r.bottom → IsAtRow z (r ∷ rects) (suc n)
+pub in_band : (y z : ℤ) (r : Rect) (rects : List Rect) (n : ℕ) → IsAtRow y (r ∷ rects) (suc n) → y ≤ℤ z → z <ℤ r.bottom → IsAtRow z (r ∷ rects) (suc n)
 in_band y z r rects n h le lt =
     let begun : r.top ≤ℤ y = All-head (λ q. q.top ≤ℤ y) r (take n rects) h.begun in
     let first = All-drop (ComesFirst r) n rects (pairs_head ComesFirst r rects h.order.order) in

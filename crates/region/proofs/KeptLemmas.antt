@@ -96,6 +96,21 @@ kept_none list count ended items = record {
   all = λ few to columns. sym (ap (λ n. take n list.rects.items ++ []) ended ∙ ap (λ l. take 0 l ++ []) items);
 }
 
+-- what is kept hangs on these alone
+pub kept_alike : (old new : BandList) (bands : Bands) → new.rects.items ≡ old.rects.items → new.ended ≡ old.ended → new.count ≡ old.count →
+    new.most ≡ old.most → IsKept old bands → IsKept new bands
+kept_alike old new bands items ended count most k = record {
+  row = k.row;
+  from = k.from;
+  number = count ∙ k.number;
+  within = rw (items, ended) k.within;
+  value = k.value;
+  last = ap (λ n. drop n new.rects.items) ended ∙ ap (drop old.ended) items ∙ k.last;
+  all = λ few to columns. k.all (rw (sym count, sym most) few) to columns
+      ∙ ap (λ l. take old.ended l ++ rects_of_spans k.from to k.row) (sym items)
+      ∙ ap (λ n. take n new.rects.items ++ rects_of_spans k.from to k.row) (sym ended);
+}
+
 -- a band with these spans was begun at a row, after these rectangles: those of the bands before it, where they are not too many
 pub record HasBegun (old new : BandList) (place : ℤ) (spans : List Span) (before : List Rect) : Type 0 where
   pub count : new.count ≡ old.count + length spans

@@ -17,9 +17,11 @@ use Rattle.region.specs.Region.{SharesPoint}
 use Rattle.region.specs.Canonical.{point_from}
 use Rattle.region.specs.InnerCursor.{in_columns, AreInBand}
 use Rattle.region.specs.InnerMeets.{HasColumnIn, IsLeft}
+use Rattle.region.specs.InnerRows.{IsPast}
 use Rattle.region.proofs.SearchLemmas.{pairs_head}
 use Rattle.region.proofs.CursorLemmas.{in_order_drop, in_order_take, sorted_by_top, none_above, rows_rest, in_row, one_row_is_band, none_left}
-use Rattle.region.proofs.CursorLemmas.{columns_rest, first_decides, is_begun}
+use Rattle.region.proofs.CursorLemmas.{first_decides, is_begun}
+use Rattle.region.proofs.RowLemmas.{past_points}
 
 -- columns of a band
 
@@ -43,15 +45,13 @@ first_has left right r rects h ahead across begins =
       before = omega (arith, ints, clamps, across, begins);
     }
 
-pub column_in_rest : (left right : ℤ) (rects : List Rect) (n : ℕ) → All (λ r. r.right ≤ℤ left) (take n rects) → HasColumnIn (drop n rects) left right →
-    HasColumnIn rects left right
-column_in_rest left right rects n ended h =
-    record { place = h.place; held = sym (columns_rest h.place left rects n ended h.from) ∙ h.held; from = h.from; before = h.before }
+pub column_in_rest : (left right : ℤ) (band rest : List Rect) → IsPast left band rest → HasColumnIn rest left right → HasColumnIn band left right
+column_in_rest left right band rest p h =
+    record { place = h.place; held = sym (past_points left band rest p h.place h.from) ∙ h.held; from = h.from; before = h.before }
 
-pub column_of_rest : (left right : ℤ) (rects : List Rect) (n : ℕ) → All (λ r. r.right ≤ℤ left) (take n rects) → HasColumnIn rects left right →
-    HasColumnIn (drop n rects) left right
-column_of_rest left right rects n ended h =
-    record { place = h.place; held = columns_rest h.place left rects n ended h.from ∙ h.held; from = h.from; before = h.before }
+pub column_of_rest : (left right : ℤ) (band rest : List Rect) → IsPast left band rest → HasColumnIn band left right → HasColumnIn rest left right
+column_of_rest left right band rest p h =
+    record { place = h.place; held = past_points left band rest p h.place h.from ∙ h.held; from = h.from; before = h.before }
 
 pub none_of_none : (left right : ℤ) (rects : List Rect) → length rects < 1 → HasColumnIn rects left right → ⊥
 none_of_none left right [] short h = false≢true h.held

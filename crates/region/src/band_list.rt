@@ -41,6 +41,14 @@ impl BandList {
         }
     }
 
+    /// Makes room for so many rectangles more.
+    pub fn reserve(&mut self, more: usize) -> Result<(), AllocError>
+        ensures kept { (bands : Bands) → IsKept self.old bands → IsKept self.new bands }
+        ensures most { self.new.most ≡ self.old.most }
+    {
+        self.rects.reserve(more)
+    }
+
     /// From a row on, the columns are those of these spans.
     #[inline(always)]
     pub fn put_row(&mut self, place: i32, spans: &[Span]) -> Result<(), AllocError>

@@ -7,7 +7,7 @@ ghost use Rattle.region.specs.Region.{SharesPoint};
 ghost use Rattle.region.specs.InnerCursor.{AreInBand};
 ghost use Rattle.region.specs.InnerMeets.{HasColumnIn};
 
-use crate::search::{Edge, count_until};
+use crate::search::{Edge, count_until, past};
 use geom_base::Rect;
 
 /// Whether a band has a column from one on to before another.
@@ -16,7 +16,7 @@ fn has_column_in(band: &[Rect], left: &i32, right: &i32) -> bool
     requires across { left.now <ℤ right.now }
     ensures { IsTrue result ↔ HasColumnIn band.now left.now right.now }
 {
-    match band.split_at(count_until(band, Edge::Right, left)).1 {
+    match past(band, left) {
         [] => false,
         [first, ..] => first.left < *right,
     }

@@ -28,6 +28,7 @@ use crate::rect_rows::built_by_rows;
 use crate::refusal::RegionRefusal;
 use crate::scan::scanned_bands;
 use crate::sweep::sweep;
+use crate::union::union_rows;
 use geom_base::{Point, Rect};
 use std::alloc::{AllocError, Global};
 use std::marker::Model;
@@ -69,7 +70,9 @@ pub fn region_of_list(list: BandList) -> Result<Region, RegionRefusal>
     if list.count > MOST_RECTS {
         return Err(RegionRefusal::TooMany(list.count));
     }
-    Ok(region_of_rects(list.rects))
+    let mut rects = list.rects;
+    rects.shrink_to_fit();
+    Ok(region_of_rects(rects))
 }
 
 /// The bands after an operation on the lists of two regions, of which so many rectangles are kept.
@@ -127,6 +130,7 @@ impl Region {
         match operation {
             Operation::Intersect if self.is_apart(other) => Ok(region_of_rects(Vec::new(alloc))),
             Operation::Subtract if self.is_apart(other) => Ok(self.copied(alloc)?),
+            Operation::Union => union_rows(alloc, &self.rects, &other.rects)?.finish(),
             _ => {
                 let bands = combined_bands(
                     alloc,

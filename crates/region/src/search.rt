@@ -3,6 +3,8 @@
 ghost use Rattle.std.specs.Prelude.{◌≡◌, ◌≤◌, ℤ, ◌<ℤ◌, ◌≤ℤ◌, length, take, drop};
 ghost use Rattle.std.specs.List.{All};
 ghost use Rattle.region.specs.InnerSearch.{edge_of, AreSorted};
+ghost use Rattle.region.specs.InnerCursor.{AreInBand};
+ghost use Rattle.region.specs.InnerRows.{IsPast};
 
 use geom_base::Rect;
 
@@ -67,4 +69,12 @@ pub fn count_until(rects: &[Rect], edge: Edge, place: &i32) -> usize
         [first, second, ..] if edge.of(second) > *place => 1,
         _ => count_far(rects, edge, place),
     }
+}
+
+/// The rectangles of a band that reach past a column.
+pub fn past<'a>(band: &'a [Rect], place: &i32) -> &'a [Rect]
+    requires { AreInBand band.now }
+    ensures { IsPast place.now band.now result.now }
+{
+    band.split_at(count_until(band, Edge::Right, place)).1
 }

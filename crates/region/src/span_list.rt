@@ -104,6 +104,7 @@ impl SpanList {
     }
 
     /// The spans of an operation on two bands, in the place of all others.
+    #[inline(always)]
     pub fn combine(
         &mut self,
         operation: Operation,

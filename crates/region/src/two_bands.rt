@@ -5,20 +5,12 @@ ghost use Rattle.region.specs.Columns.{has_column};
 ghost use Rattle.region.specs.InnerColumns.{IsColumns};
 ghost use Rattle.region.specs.InnerCursor.{AreInBand, in_columns};
 ghost use Rattle.region.specs.InnerSpanList.{span_steps};
-ghost use Rattle.region.specs.InnerRows.{IsFree, IsPast, IsTaken};
+ghost use Rattle.region.specs.InnerRows.{IsFree, IsTaken};
 
-use crate::search::{Edge, count_until};
+use crate::search::past;
 use crate::span_list::SpanList;
 use geom_base::Rect;
 use std::alloc::AllocError;
-
-/// The rectangles of a band that reach past a column.
-fn past<'a>(band: &'a [Rect], place: &i32) -> &'a [Rect]
-    requires { AreInBand band.now }
-    ensures { IsPast place.now band.now result.now }
-{
-    band.split_at(count_until(band, Edge::Right, place)).1
-}
 
 /// Adds the columns of a band that a rectangle has.
 #[inline(never)]

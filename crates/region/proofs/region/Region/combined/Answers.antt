@@ -1,4 +1,7 @@
-use Rattle.std.proofs.Common.{ap, ◌∙◌, refl, Ok}
+use Rattle.std.proofs.Common.{ap, ◌∙◌, ◌||◌, refl, sym, subst, Ok}
+use Rattle.region.specs.Order.{IsInOrder}
+use Rattle.region.proofs.OrderLemmas.{region_in_order}
+use Rattle.region.proofs.UnionLemmas.{answer_alike}
 use Rattle.geom_base.specs.Points.{is_in_some}
 use Rattle.region.specs.Operation.{holds_after}
 use Rattle.region.proofs.KeptLemmas.{built_alike}
@@ -23,12 +26,35 @@ pub returns-in_ok-copied-in-Subtract-clause-canonical : goal.returns-in_ok-copie
 returns-in_ok-copied-in-Subtract-clause-canonical c = λ left right. operation_is_canonical c.args.operation c.args.self.now c.args.other.now
     (Ok c.in_ok-copied-in-Subtract.field-0) left right (returns-in_ok-copied-in-Subtract-clause-answer c)
 
+pub union_rows-requires-clause-left : goal.union_rows-requires-clause-left
+union_rows-requires-clause-left c = subst IsInOrder (sym c.deref.ensures.value) (region_in_order c.self.inside.rects.items c.self.invariant.region)
+
+pub union_rows-requires-clause-right : goal.union_rows-requires-clause-right
+union_rows-requires-clause-right c = subst IsInOrder (sym c.deref-in-Union.ensures.value) (region_in_order c.other.inside.rects.items c.other.invariant.region)
+
+pub finish-requires : goal.finish-requires
+finish-requires c =
+    let has = c.in_ok-union_rows-in-Union.ensures in
+    (has.pushed, has.end, has.rows)
+
+pub returns-in_ok-union_rows-in-Union-clause-answer : goal.returns-in_ok-union_rows-in-Union-clause-answer
+returns-in_ok-union_rows-in-Union-clause-answer c =
+    let has = c.in_ok-union_rows-in-Union.ensures in
+    rw c.in-Union.is (answer_alike _ _ c.finish.result (λ p. has.points p
+    ∙ ap (λ l. is_in_some p l || is_in_some p c.deref-in-Union.result.now) (c.deref.ensures.value ∙ c.self.view_is)
+    ∙ ap (λ l. is_in_some p c.args.self.now || is_in_some p l) (c.deref-in-Union.ensures.value ∙ c.other.view_is))
+    (c.finish.ensures.answer has.pushed has.end has.rows))
+
+pub returns-in_ok-union_rows-in-Union-clause-canonical : goal.returns-in_ok-union_rows-in-Union-clause-canonical
+returns-in_ok-union_rows-in-Union-clause-canonical c = λ left right. operation_is_canonical c.args.operation c.args.self.now c.args.other.now _ left right
+    (returns-in_ok-union_rows-in-Union-clause-answer c)
+
 pub returns-in_ok-bands-in_default-clause-answer : goal.returns-in_ok-bands-in_default-clause-answer
 returns-in_ok-bands-in_default-clause-answer c =
     let op = holds_after c.args.operation in
     c.region_of_list.ensures _ (built_alike 4096 _ _ c.in_ok-bands-in_default.bands
-    (λ p. ap (λ l. op (is_in_some p l) (is_in_some p c.deref-in_default.result.now)) (c.deref.ensures.value ∙ c.self.view_is)
-    ∙ ap (λ l. op (is_in_some p c.args.self.now) (is_in_some p l)) (c.deref-in_default.ensures.value ∙ c.other.view_is)) c.in_ok-bands-in_default.ensures)
+    (λ p. ap (λ l. op (is_in_some p l) (is_in_some p c.deref-in_default-2.result.now)) (c.deref-in_default.ensures.value ∙ c.self.view_is)
+    ∙ ap (λ l. op (is_in_some p c.args.self.now) (is_in_some p l)) (c.deref-in_default-2.ensures.value ∙ c.other.view_is)) c.in_ok-bands-in_default.ensures)
 
 pub returns-in_ok-bands-in_default-clause-canonical : goal.returns-in_ok-bands-in_default-clause-canonical
 returns-in_ok-bands-in_default-clause-canonical c = λ left right. operation_is_canonical c.args.operation c.args.self.now c.args.other.now _ left right

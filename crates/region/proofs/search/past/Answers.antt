@@ -1,7 +1,7 @@
 use Rattle.std.proofs.Common.{◌<ℤ◌, sym, subst}
 use Rattle.std.specs.List.{All}
 use Rattle.region.proofs.CursorLemmas.{sorted_by_right}
-use Rattle.region.proofs.two_bands.past.Goals as goal
+use Rattle.region.proofs.search.past.Goals as goal
 
 pub count_until-requires : goal.count_until-requires
 count_until-requires c = sorted_by_right c.args.band.now c.requires
