@@ -1,4 +1,4 @@
-//! Regions near their limit, for tests; and the tests of the four operations.
+//! Regions near their limit, for tests; and the tests of regions: how they are made, moved, cut and asked, and the four operations.
 //!
 //! The tests hold small regions against answers worked out by hand, and those at the limit against numbers.
 #![tactic(auto)]
@@ -11,6 +11,8 @@ use geom_base::Rect;
 use region::{RegionBuilder, Span};
 use std::alloc::{AllocError, Global};
 
+#[cfg(test)]
+mod regions;
 #[cfg(test)]
 mod tests;
 

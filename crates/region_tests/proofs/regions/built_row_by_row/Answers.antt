@@ -1,7 +1,7 @@
 use Rattle.std.proofs.Common.{pos, [], arith}
 use Rattle.std.proofs.lemmas.Int.{ints}
 use Rattle.region.specs.Builder.{first_row}
-use Rattle.region.proofs.tests.built_row_by_row.Goals as goal
+use Rattle.region_tests.proofs.regions.built_row_by_row.Goals as goal
 
 pub push_row-requires-2-clause-below : goal.push_row-requires-2-clause-below
 push_row-requires-2-clause-below g c =

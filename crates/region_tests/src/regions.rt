@@ -1,18 +1,9 @@
 //! Regions that are moved, cut, asked and built.
 
 use super::*;
-use geom_base::{Point, Rect};
-use std::alloc::AllocError;
+use geom_base::Point;
+use region::{Region, fills_bounds, rects_of_bounds};
 use std::test::Fail;
-
-const fn rect(left: i32, top: i32, right: i32, bottom: i32) -> Rect {
-    Rect {
-        left,
-        top,
-        right,
-        bottom,
-    }
-}
 
 #[test]
 fn moved_tested_and_clipped(rt: HostRuntime) -> Result<(), Fail> {
