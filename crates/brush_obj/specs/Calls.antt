@@ -5,7 +5,7 @@ use Rattle.geom_base.specs.declared.point.Point.{Point}
 use Rattle.geom_base.specs.declared.rect.Rect.{Rect}
 use Rattle.geom_base.specs.declared.size.Size.{Size}
 use Rattle.geom_base.specs.declared.target.Target.{Target}
-use Rattle.geom_base.specs.Points.{is_in, moved, moved_back, moved_rect, whole}
+use Rattle.geom_base.specs.Points.{RectMoves, is_in, moved, moved_back, moved_rect, whole}
 use Rattle.pix_format.specs.declared.format.Format.{Format}
 use Rattle.pix_format.specs.Value.{bits_of}
 use Rattle.pix_format.specs.Xlate.{Translation, translated}
@@ -141,7 +141,7 @@ reach_of_call c p = is_in p (rect_of c)
 abbrev pub HoldsOwn : Option Target → Target → Type 0
 HoldsOwn held target = IfSome held (λ t. t ≡ target)
 
--- a point and a rectangle whose coordinates stay in range when they are moved
+-- a point whose coordinates stay in range when it is moved, and when it is moved back
 pub record PointMoves (p by : Point) : Type 0 where
   pub across : FitsSigned w32 (p.x +ℤ by.x)
   pub down : FitsSigned w32 (p.y +ℤ by.y)
@@ -150,16 +150,10 @@ pub record PointMovesBack (p by : Point) : Type 0 where
   pub across : FitsSigned w32 (p.x -ℤ by.x)
   pub down : FitsSigned w32 (p.y -ℤ by.y)
 
-pub record RectMoves (r : Rect) (by : Point) : Type 0 where
-  pub left : FitsSigned w32 (r.left +ℤ by.x)
-  pub top : FitsSigned w32 (r.top +ℤ by.y)
-  pub right : FitsSigned w32 (r.right +ℤ by.x)
-  pub bottom : FitsSigned w32 (r.bottom +ℤ by.y)
-
 abbrev pub CallMoves : DrawCall → Point → Type 0
-CallMoves (Blt c) by = RectMoves c.rect by × PointMoves c.origin by
-CallMoves (Copy c) by = RectMoves c.rect by
-CallMoves (Paint c) by = RectMoves c.rect by × PointMoves c.origin by
+CallMoves (Blt c) by = RectMoves by c.rect × PointMoves c.origin by
+CallMoves (Copy c) by = RectMoves by c.rect
+CallMoves (Paint c) by = RectMoves by c.rect × PointMoves c.origin by
 
 -- any call with its target's points moved; those of source and mask stay
 abbrev pub moved_blt : BltCall → Point → BltCall

@@ -1,6 +1,7 @@
 //! The call that combines a mask, a brush, a source and a target.
 
 ghost use Rattle.std.specs.Prelude.{◌≡◌, false};
+ghost use Rattle.geom_base.specs.Points.{RectMoves};
 
 use crate::shifting::shifted;
 use geom_base::{Point, Rect, Target};
@@ -20,7 +21,7 @@ pub struct BltCall {
 }
 
 impl BltCall {
-    ghost use Rattle.brush_obj.specs.Calls.{IgnoresTarget, PointMoves, RectMoves, moved_blt};
+    ghost use Rattle.brush_obj.specs.Calls.{IgnoresTarget, PointMoves, moved_blt};
     ghost use Rattle.brush_obj.specs.declared.draw_call.DrawCall.TheVariants.{Blt};
 
     /// Whether what a point gets may depend on what it had, though the call finds its source: where the old value counts, or a
@@ -33,7 +34,7 @@ impl BltCall {
 
     /// The call on a target whose points are moved.
     pub fn shifted(&self, by: Point) -> BltCall
-        requires rect { RectMoves self.now.rect by }
+        requires rect { RectMoves by self.now.rect }
         requires origin { PointMoves self.now.origin by }
         ensures { result ≡ moved_blt self.now by }
     {

@@ -2,6 +2,7 @@
 
 ghost use Rattle.std.specs.Prelude.{◌≡◌, ◌<◌, ◌^◌, ℕ, None, Some};
 ghost use Rattle.geom_base.specs.declared.point.Point.{Point};
+ghost use Rattle.geom_base.specs.Points.{RectMoves};
 ghost use Rattle.pix_format.specs.Value.{bits_of};
 
 use crate::blt_call::BltCall;
@@ -22,7 +23,7 @@ pub struct CopyCall {
 pub const ZERO: Point = Point { x: 0, y: 0 };
 
 impl CopyCall {
-    ghost use Rattle.brush_obj.specs.Calls.{RectMoves, moved_copy, Operands, blt_of, new_of_blt, new_of_copy, point_across};
+    ghost use Rattle.brush_obj.specs.Calls.{moved_copy, Operands, blt_of, new_of_blt, new_of_copy, point_across};
 
     /// The raster operation that copies: the source alone.
     pub fn as_blt(&self) -> BltCall
@@ -47,7 +48,7 @@ impl CopyCall {
 
     /// The call on a target whose points are moved.
     pub fn shifted(&self, by: Point) -> CopyCall
-        requires rect { RectMoves self.now.rect by }
+        requires rect { RectMoves by self.now.rect }
         ensures { result ≡ moved_copy self.now by }
     {
         CopyCall {

@@ -3,6 +3,7 @@
 ghost use Rattle.std.specs.Prelude.{◌≡◌, ℕ, Some, false};
 ghost use Rattle.geom_base.specs.Step.{value_after};
 ghost use Rattle.geom_base.specs.declared.point.Point.{Point};
+ghost use Rattle.geom_base.specs.Points.{RectMoves};
 ghost use Rattle.pix_format.specs.Value.{bits_of};
 ghost use Rattle.rop_mix.specs.Rop.{rop3_of};
 
@@ -21,7 +22,7 @@ pub struct PaintCall {
 
 impl PaintCall {
     ghost use Rattle.brush_obj.specs.Wrapping.{from_origin};
-    ghost use Rattle.brush_obj.specs.Calls.{RectMoves, PointMoves, moved_paint, Operands, new_of_paint};
+    ghost use Rattle.brush_obj.specs.Calls.{PointMoves, moved_paint, Operands, new_of_paint};
 
     /// The code of three operands that does what the mix does, whatever the source.
     pub fn rop3(&self) -> u8
@@ -41,7 +42,7 @@ impl PaintCall {
 
     /// The call on a target whose points are moved.
     pub fn shifted(&self, by: Point) -> PaintCall
-        requires rect { RectMoves self.now.rect by }
+        requires rect { RectMoves by self.now.rect }
         requires origin { PointMoves self.now.origin by }
         ensures { result ≡ moved_paint self.now by }
     {

@@ -8,9 +8,9 @@ use Rattle.std.proofs.lemmas.List.{length-take-le, length-map, get_or-append-add
 use Rattle.std.proofs.lemmas.List.Elements.{All-map}
 use Rattle.geom_base.specs.declared.point.Point.{Point}
 use Rattle.geom_base.specs.declared.rect.Rect.{Rect}
-use Rattle.geom_base.specs.Points.{is_in, is_in_some, moved, moved_rect}
+use Rattle.geom_base.specs.Points.{is_in, is_in_some, moved, moved_rect, RectMoves, moved_back}
 use Rattle.region.specs.Region.{IsRegion, IsRegionOf}
-use Rattle.region.specs.Moved.{CanMove, moved_back, RegionMoves}
+use Rattle.region.specs.Moved.{RegionMoves}
 use Rattle.clip_obj.specs.Clip.{allows, to_origin, LiesWithin}
 
 -- what is not moved yet
@@ -23,7 +23,7 @@ not_moved f rects now i d lt e =
     ∙ get_or-append-add (map f (take i rects)) (drop i rects) 0 d ∙ get_or-drop i rects 0 d ∙ ap (λ k. get_or rects k d) (omega arith)
 
 -- what lies within bounds that can move can move
-one_moves : (by : Point) (outer r : Rect) → CanMove by outer → LiesWithin outer r → CanMove by r
+one_moves : (by : Point) (outer r : Rect) → RectMoves by outer → LiesWithin outer r → RectMoves by r
 one_moves by outer r can h = record {
   left = grind (arith, ints, can.left, can.right, h.left, h.across, h.right);
   top = grind (arith, ints, can.top, can.bottom, h.top, h.down, h.bottom);
@@ -31,7 +31,7 @@ one_moves by outer r can h = record {
   bottom = grind (arith, ints, can.top, can.bottom, h.top, h.down, h.bottom);
 }
 
-pub all_move : (by : Point) (outer : Rect) (rects : List Rect) → CanMove by outer → All (LiesWithin outer) rects → All (CanMove by) rects
+pub all_move : (by : Point) (outer : Rect) (rects : List Rect) → RectMoves by outer → All (LiesWithin outer) rects → All (RectMoves by) rects
 all_move by outer rects can h = λ k d lt. one_moves by outer (get_or rects k d) can (h k d lt)
 
 -- and lies within the bounds moved

@@ -3,10 +3,9 @@
 ghost use Rattle.std.specs.Prelude.{◌≡◌, ◌<◌, ◌++◌, ◌↔◌, IsTrue, IfOk, length, map, min, take, drop, All};
 ghost use Rattle.std.specs.List.{AllPairs};
 ghost use Rattle.std.specs.List.Sorted.{IsPermutation};
-ghost use Rattle.geom_base.specs.Points.{AreApart, HasPoints, moved_rect};
+ghost use Rattle.geom_base.specs.Points.{AreApart, HasPoints, moved_rect, RectMoves};
 ghost use Rattle.region.specs.Region.{IsRegion};
 ghost use Rattle.region.specs.Order.{IsInOrder};
-ghost use Rattle.region.specs.Moved.{CanMove};
 ghost use Rattle.clip_obj.specs.Clip.{IsClipOf, IsClipAt, LiesWithin, to_origin};
 ghost use Rattle.clip_obj.specs.Complexity.{IsComplexity};
 ghost use Rattle.clip_obj.specs.Order.{ordered, ComesBefore};
@@ -84,7 +83,7 @@ impl ClipObj {
         bounds: Rect,
         at: Point,
     ) -> Result<ClipObj, AllocError>
-        requires { CanMove (to_origin at) bounds }
+        requires { RectMoves (to_origin at) bounds }
         ensures clip { IfOk result (IsClipAt region.entry bounds at) }
         ensures inside { IfOk result (λ c. All (LiesWithin (moved_rect bounds (to_origin at))) c.rects) }
     {
@@ -101,7 +100,7 @@ impl ClipObj {
     /// `AllocError` for want of memory.
     pub fn seen_from(&self, alloc: Global, bounds: Rect, at: Point) -> Result<ClipObj, AllocError>
         requires within { All (LiesWithin bounds) self.now.rects }
-        requires moves { CanMove (to_origin at) bounds }
+        requires moves { RectMoves (to_origin at) bounds }
         ensures bounds { IfOk result (λ c. c.bounds ≡ moved_rect bounds (to_origin at)) }
         ensures rects { IfOk result (λ c. c.rects ≡ map (λ r. moved_rect r (to_origin at)) self.now.rects) }
     {

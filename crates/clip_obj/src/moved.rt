@@ -2,15 +2,14 @@
 
 ghost use Rattle.std.specs.Prelude.{◌≡◌, map};
 ghost use Rattle.std.specs.List.{All};
-ghost use Rattle.geom_base.specs.Points.{moved_rect};
-ghost use Rattle.region.specs.Moved.{CanMove};
+ghost use Rattle.geom_base.specs.Points.{moved_rect, RectMoves};
 ghost use Rattle.clip_obj.specs.Clip.{to_origin};
 
 use geom_base::{Point, Rect};
 
 /// The rectangle moved so that a point becomes 0 0.
 pub fn seen_from(at: &Point, rect: &Rect) -> Rect
-    requires { CanMove (to_origin at.now) rect.now }
+    requires { RectMoves (to_origin at.now) rect.now }
     ensures { result ≡ moved_rect rect.now (to_origin at.now) }
 {
     Rect {
@@ -23,7 +22,7 @@ pub fn seen_from(at: &Point, rect: &Rect) -> Rect
 
 /// Moves rectangles so that a point becomes 0 0.
 fn move_to_origin(rects: &mut [Rect], at: &Point)
-    requires { All (CanMove (to_origin at.now)) rects.old }
+    requires { All (RectMoves (to_origin at.now)) rects.old }
     ensures { rects.new ≡ map (λ r. moved_rect r (to_origin at.now)) rects.old }
 {
     for i in 0..rects.len() {
@@ -33,7 +32,7 @@ fn move_to_origin(rects: &mut [Rect], at: &Point)
 
 /// The rectangles moved so that a point becomes 0 0.
 pub fn all_seen_from(at: &Point, rects: Vec<Rect>) -> Vec<Rect>
-    requires { All (CanMove (to_origin at.now)) rects.items }
+    requires { All (RectMoves (to_origin at.now)) rects.items }
     ensures { result.items ≡ map (λ r. moved_rect r (to_origin at.now)) rects.items }
 {
     let mut moved = rects;

@@ -1,7 +1,7 @@
 //! Batches of clips, and what clips leave of their bounds.
 
 ghost use Rattle.std.specs.Prelude.{◌≡◌};
-ghost use Rattle.region.specs.Moved.{CanMove};
+ghost use Rattle.geom_base.specs.Points.{RectMoves};
 ghost use Rattle.clip_obj.specs.Clip.{to_origin};
 
 use super::*;
@@ -146,7 +146,7 @@ fn seen_from_a_point(rt: HostRuntime) -> Result<(), Fail> {
 
 /// The one rectangle of a clip as seen from a point.
 fn seen(alloc: Global, of: Rect, bounds: Rect, at: Point) -> Result<Option<Rect>, Fail>
-    requires { CanMove (to_origin at) bounds }
+    requires { RectMoves (to_origin at) bounds }
 {
     let region = Region::from_rects(alloc, &[of])?;
     let mut clip = ClipObj::build_at(alloc, Some(&region), bounds, at)?;

@@ -8,11 +8,10 @@ use Rattle.std.proofs.lemmas.Int.{ints}
 use Rattle.geom_base.specs.declared.point.Point.{Point}
 use Rattle.geom_base.specs.declared.rect.Rect.{Rect}
 use Rattle.geom_base.specs.declared.size.Size.{Size}
-use Rattle.geom_base.specs.Points.{HasPoints, IsIn, is_in, LiesIn, most_side, moved, moved_rect, point_at, whole}
+use Rattle.geom_base.specs.Points.{HasPoints, IsIn, is_in, LiesIn, most_side, moved, moved_rect, point_at, whole, RectMoves}
 use Rattle.geom_base.specs.PointLaws.{has_point, is_in-IsIn, first_is_in, lies_between, same_edges}
 use Rattle.geom_base.specs.Tests.{same_tests}
-use Rattle.region.specs.Moved.{CanMove}
-use Rattle.brush_obj.specs.Calls.{PointMovesBack, RectMoves, moved_call, rect_of, src_of}
+use Rattle.brush_obj.specs.Calls.{PointMovesBack, moved_call, rect_of, src_of}
 use Rattle.brush_obj.specs.declared.draw_call.DrawCall.{DrawCall}
 use Rattle.brush_obj.specs.declared.draw_call.DrawCall.TheVariants.{Blt, Copy, Paint}
 use Rattle.clip_obj.specs.Clip.{LiesWithin, to_origin}
@@ -102,7 +101,7 @@ module _ (frame : Rect) (size : Size) (at : Point) (sides : IsSurfaceSize size) 
   bottom : IsEdge frame.bottom
   bottom = last_edge frame.top frame.bottom size.h inside.top inside.down inside.bottom sides.most_height
 
-  pub frame_stands : MayStandAt at → RectMoves frame at
+  pub frame_stands : MayStandAt at → RectMoves at frame
   frame_stands h = record {
     left = edge_stands frame.left at.x left h.0;
     top = edge_stands frame.top at.y top h.1;
@@ -110,7 +109,7 @@ module _ (frame : Rect) (size : Size) (at : Point) (sides : IsSurfaceSize size) 
     bottom = edge_stands frame.bottom at.y bottom h.1;
   }
 
-  pub frame_can_move : CanMove (to_origin at) (moved_rect frame at)
+  pub frame_can_move : RectMoves (to_origin at) (moved_rect frame at)
   frame_can_move = record {
     left = edge_back frame.left at.x left;
     top = edge_back frame.top at.y top;

@@ -1,8 +1,9 @@
 //! Where surfaces stand.
 
 ghost use Rattle.std.specs.Prelude.{◌≡◌};
+ghost use Rattle.geom_base.specs.Points.{RectMoves};
 ghost use Rattle.script_orders.specs.Rows.{zero_point};
-ghost use Rattle.brush_obj.specs.Calls.{PointMoves, PointMovesBack, RectMoves};
+ghost use Rattle.brush_obj.specs.Calls.{PointMoves, PointMovesBack};
 ghost use Rattle.clip_obj.specs.Clip.{to_origin};
 ghost use Rattle.desk_span.specs.Desk.{MayStandAt};
 ghost use Rattle.desk_span.specs.InnerBeside.{CanBeSeen};
@@ -56,7 +57,7 @@ pub fn is_seen_from_origin(call: &DrawCall)
 
 /// The edges of a rectangle are numbers of 32 bits.
 fn edges_fit(rect: &Rect)
-    ensures { RectMoves rect.now (to_origin zero_point) }
+    ensures { RectMoves (to_origin zero_point) rect.now }
 {
     let _edges = (rect.left, rect.top, rect.right, rect.bottom);
 }

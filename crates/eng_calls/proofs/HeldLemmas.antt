@@ -11,7 +11,7 @@ use Rattle.geom_base.specs.declared.size.Size.{Size}
 use Rattle.geom_base.specs.declared.target.Target.{Target}
 use Rattle.geom_base.specs.Grid.{value_of_point}
 use Rattle.geom_base.specs.PointLaws.{has_point, is_in-IsIn, lies_between}
-use Rattle.geom_base.specs.Points.{HasPoints, HasSides, IsIn, LiesIn, corner_of, height_of, is_in, moved_back, moved_rect, sides_of, whole, width_of}
+use Rattle.geom_base.specs.Points.{HasPoints, HasSides, IsIn, LiesIn, corner_of, height_of, is_in, moved_back, moved_rect, sides_of, whole, width_of, RectMoves}
 use Rattle.geom_base.specs.Tests.{same_tests}
 use Rattle.pix_format.specs.declared.format.Format.{Format}
 use Rattle.surf_obj.specs.Object.{IsBlank, object_size, object_values}
@@ -20,7 +20,7 @@ use Rattle.surf_obj.specs.Rects.{rect_values}
 use Rattle.surf_obj.specs.Surface.{Surface}
 use Rattle.surf_obj.specs.declared.layout.Layout.{Layout}
 use Rattle.surf_obj.specs.declared.object.SurfObj.{SurfObj}
-use Rattle.brush_obj.specs.Calls.{IgnoresTarget, PointMovesBack, RectMoves, rect_of, shown, source_point, src_of}
+use Rattle.brush_obj.specs.Calls.{IgnoresTarget, PointMovesBack, rect_of, shown, source_point, src_of}
 use Rattle.brush_obj.specs.declared.draw_call.DrawCall.{DrawCall}
 use Rattle.brush_obj.specs.declared.draw_call.DrawCall.TheVariants.{Blt, Copy, Paint}
 use Rattle.copy_port.specs.Given.{HasCoordinates, IsCallRect, IsCoordinate, IsPoint, Picture, held_in, picture_of, points_of}
@@ -80,7 +80,7 @@ source_differs call h =
     let s = call_src call h in
     record { across = two_fit (src_of call).x (rect_of call).left s.0 r.left; down = two_fit (src_of call).y (rect_of call).top s.1 r.top }
 
-pub source_moves : (call : DrawCall) (frame : Rect) → HasCoordinates call → LiesOnTarget frame → RectMoves frame (to_source call)
+pub source_moves : (call : DrawCall) (frame : Rect) → HasCoordinates call → LiesOnTarget frame → RectMoves (to_source call) frame
 source_moves call frame h on =
     let r = call_rect call h in
     let s = call_src call h in

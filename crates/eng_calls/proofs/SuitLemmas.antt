@@ -11,19 +11,18 @@ use Rattle.std.proofs.lemmas.Int.{ints}
 use Rattle.geom_base.specs.declared.point.Point.{Point}
 use Rattle.geom_base.specs.declared.rect.Rect.{Rect}
 use Rattle.geom_base.specs.declared.target.Target.{Target}
-use Rattle.geom_base.specs.Points.{LiesIn, corner_of, moved_rect, sides_of}
+use Rattle.geom_base.specs.Points.{LiesIn, corner_of, moved_rect, sides_of, RectMoves}
 use Rattle.pix_format.specs.declared.format.Format.{Format}
 use Rattle.pix_format.specs.declared.rgb.Rgb.{Rgb}
 use Rattle.pix_format.specs.Value.{colours_of}
 use Rattle.pix_format.specs.Xlate.{Translation}
 use Rattle.surf_obj.specs.Surface.{Surface}
 use Rattle.surf_obj.specs.declared.view.LentView.{LentView}
-use Rattle.brush_obj.specs.Calls.{CallMoves, PointMoves, RectMoves, held_of, lent_call, moved_call}
+use Rattle.brush_obj.specs.Calls.{CallMoves, PointMoves, held_of, lent_call, moved_call}
 use Rattle.brush_obj.specs.Slots.{Brush}
 use Rattle.brush_obj.specs.declared.draw_call.DrawCall.{DrawCall}
 use Rattle.brush_obj.specs.declared.draw_call.DrawCall.TheVariants.{Blt, Copy, Paint}
 use Rattle.blt_kernel.specs.Handed.{TranslatesFrom}
-use Rattle.region.specs.Moved.{CanMove}
 use Rattle.clip_obj.specs.Clip.{LiesWithin, to_origin}
 use Rattle.copy_port.specs.Given as given
 use Rattle.copy_port.specs.State.{IsLive, Shown, surface_of}
@@ -116,7 +115,7 @@ lent_holds (Paint c) at = refl
 one_moves : (z c : ℤ) → given.IsCoordinate z → pos 0 ≤ℤ c → c ≤ℤ pos 4096 → FitsSigned w32 (z +ℤ (pos 0 -ℤ c))
 one_moves z c h low high = grind (arith, ints, h.0, h.1, low, high)
 
-rect_moves : (r frame : Rect) → given.IsCallRect r → LiesOnTarget frame → RectMoves r (to_origin (corner_of frame))
+rect_moves : (r frame : Rect) → given.IsCallRect r → LiesOnTarget frame → RectMoves (to_origin (corner_of frame)) r
 rect_moves r frame h on = record {
   left = one_moves r.left frame.left h.left on.left (omega (arith, ints, on.across, on.right));
   top = one_moves r.top frame.top h.top on.top (omega (arith, ints, on.down, on.bottom));
@@ -150,7 +149,7 @@ moved_suits (Paint c) by i format h = h
 frame_edge : (z c : ℤ) → pos 0 ≤ℤ c → z ≤ℤ pos 4096 → pos 0 ≤ℤ z → c ≤ℤ pos 4096 → FitsSigned w32 (z +ℤ (pos 0 -ℤ c))
 frame_edge z c a b d e = grind (arith, ints, a, b, d, e)
 
-pub frame_moves : (frame : Rect) → LiesOnTarget frame → CanMove (to_origin (corner_of frame)) frame
+pub frame_moves : (frame : Rect) → LiesOnTarget frame → RectMoves (to_origin (corner_of frame)) frame
 frame_moves frame on = record {
   left = frame_edge frame.left frame.left on.left (omega (arith, ints, on.across, on.right)) on.left (omega (arith, ints, on.across, on.right));
   top = frame_edge frame.top frame.top on.top (omega (arith, ints, on.down, on.bottom)) on.top (omega (arith, ints, on.down, on.bottom));

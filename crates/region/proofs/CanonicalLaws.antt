@@ -6,13 +6,12 @@ use Rattle.std.proofs.lemmas.List.Elements.{All-nil, All-cons, All-head, All-tai
 use Rattle.std.proofs.lemmas.Bool.{or_cases, and_parts}
 use Rattle.geom_base.specs.declared.point.Point.{Point}
 use Rattle.geom_base.specs.declared.rect.Rect.{Rect}
-use Rattle.geom_base.specs.Points.{is_in_some, moved_rect}
+use Rattle.geom_base.specs.Points.{is_in_some, moved_rect, RectMoves, moved_back}
 use Rattle.region.specs.declared.operation.Operation.{Operation}
 use Rattle.region.specs.declared.operation.Operation.TheVariants.{Union, Intersect, Subtract, Xor}
 use Rattle.region.specs.declared.refusal.RegionRefusal.{RegionRefusal}
 use Rattle.region.specs.declared.refusal.RegionRefusal.TheVariants.{TooMany, NoMemory}
 use Rattle.region.specs.Operation.{holds_after}
-use Rattle.region.specs.Moved.{CanMove, moved_back}
 use Rattle.region.specs.Region.{IsRegionOf}
 use Rattle.region.specs.Refusal.{IsAnswer}
 use Rattle.region.specs.Window.{IsWithinWindow, IsEdge, HasEdges, Within}
@@ -103,12 +102,12 @@ moved_is_canonical by rects result h a = answer_is_canonical (λ p. is_in_some (
 edge_fits : (z : ℤ) → IsEdge z → FitsSigned w32 z
 edge_fits z h = grind (arith, ints, h.least, h.greatest)
 
-can_move : (by : Point) (r : Rect) → HasEdges (moved_rect r by) → CanMove by r
+can_move : (by : Point) (r : Rect) → HasEdges (moved_rect r by) → RectMoves by r
 can_move by r h = record { left = edge_fits _ h.left; top = edge_fits _ h.top; right = edge_fits _ h.right; bottom = edge_fits _ h.bottom }
 
-pub can_all_move : (by : Point) (rects : List Rect) → Within (map (λ r. moved_rect r by) rects) → All (CanMove by) rects
-can_all_move by [] h = All-nil (CanMove by)
-can_all_move by (r ∷ rects) h = All-cons (CanMove by) r rects (can_move by r (All-head HasEdges _ _ h)) (can_all_move by rects (All-tail HasEdges _ _ h))
+pub can_all_move : (by : Point) (rects : List Rect) → Within (map (λ r. moved_rect r by) rects) → All (RectMoves by) rects
+can_all_move by [] h = All-nil (RectMoves by)
+can_all_move by (r ∷ rects) h = All-cons (RectMoves by) r rects (can_move by r (All-head HasEdges _ _ h)) (can_all_move by rects (All-tail HasEdges _ _ h))
 
 -- the rectangle at a place stays within
 pub moved_at : (by : Point) (rects : List Rect) → Within (map (λ r. moved_rect r by) rects) → All (λ r. HasEdges (moved_rect r by)) rects

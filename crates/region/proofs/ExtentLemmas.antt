@@ -7,10 +7,9 @@ use Rattle.std.proofs.lemmas.Bool.{false≢true}
 use Rattle.std.specs.List.{All}
 use Rattle.geom_base.specs.declared.point.Point.{Point}
 use Rattle.geom_base.specs.declared.rect.Rect.{Rect}
-use Rattle.geom_base.specs.Points.{is_in, is_in_some, IsIn, HasPoints, Meet, no_rect, moved_rect}
+use Rattle.geom_base.specs.Points.{is_in, is_in_some, IsIn, HasPoints, Meet, no_rect, moved_rect, RectMoves, moved_back}
 use Rattle.region.specs.Extents.{AreExtents}
 use Rattle.region.specs.InnerExtents.{Surrounds, IsAround}
-use Rattle.region.specs.Moved.{CanMove, moved_back}
 use Rattle.region.specs.Canonical.{point_from}
 use Rattle.region.proofs.MoveLemmas.{moved_is_in, moved_is_in_some}
 
@@ -208,7 +207,7 @@ all_inside rects extents bounds h within p = here (is_in_some p rects) refl
 abbrev reach : Point → Rect
 reach by = record { left = negsuc 2147483647 -ℤ by.x; top = negsuc 2147483647 -ℤ by.y; right = pos 2147483647 -ℤ by.x; bottom = pos 2147483647 -ℤ by.y }
 
-in_reach : (by : Point) (r : Rect) → CanMove by r → Surrounds (reach by) r
+in_reach : (by : Point) (r : Rect) → RectMoves by r → Surrounds (reach by) r
 in_reach by r h = record {
   left = omega (arith, ints, h.left);
   top = omega (arith, ints, h.top);
@@ -217,9 +216,9 @@ in_reach by r h = record {
 }
 
 -- the edges of the smallest rectangle can move where those of all others can
-pub extents_can_move : (by : Point) (rects : List Rect) (e : Rect) → HasPoints e → AreExtents rects e → All (CanMove by) rects → CanMove by e
+pub extents_can_move : (by : Point) (rects : List Rect) (e : Rect) → HasPoints e → AreExtents rects e → All (RectMoves by) rects → RectMoves by e
 extents_can_move by rects e points h all =
-    let within = All-weaker (CanMove by) (Surrounds (reach by)) (in_reach by) rects all in
+    let within = All-weaker (RectMoves by) (Surrounds (reach by)) (in_reach by) rects all in
     let s = surrounds_points (reach by) e points (h.least (reach by) (λ p k. in_all p (reach by) rects within k)) in
     record {
       left = omega (arith, ints, s.left, s.right, points.across);

@@ -2,8 +2,7 @@ use Rattle.std.proofs.Common.{◌≡◌, ◌∙◌, ℤ, ◌+ℤ◌, ◌-ℤ◌,
 use Rattle.std.proofs.lemmas.Int.{ints}
 use Rattle.geom_base.specs.declared.point.Point.{Point}
 use Rattle.geom_base.specs.declared.rect.Rect.{Rect}
-use Rattle.geom_base.specs.Points.{is_in, is_in_some, moved_rect}
-use Rattle.region.specs.Moved.{moved_back}
+use Rattle.geom_base.specs.Points.{is_in, is_in_some, moved_rect, moved_back}
 use Rattle.region.specs.Region.{IsRegion}
 use Rattle.region.specs.Refusal.{IsAnswer}
 

@@ -1,11 +1,11 @@
 -- A region's list, moved.
 use Rattle.std.proofs.Common.{◌∙◌, sym, ap, map, [], ◌∷◌}
 use Rattle.geom_base.specs.declared.point.Point.{Point}
-use Rattle.geom_base.specs.Points.{moved_rect}
+use Rattle.geom_base.specs.Points.{moved_rect, moved_back}
 use Rattle.region.specs.Steps.{AllValid}
 use Rattle.region.specs.Columns.{HasColumns}
 use Rattle.region.specs.Band.{Bands}
-use Rattle.region.specs.Moved.{moved_back, RegionMoves}
+use Rattle.region.specs.Moved.{RegionMoves}
 use Rattle.region.specs.InnerMoved.{moved_bands}
 use Rattle.region.proofs.MoveLemmas.{moved_is_in_some}
 use Rattle.region.proofs.BandMoveLemmas.{has_columns_moved, canonical_moved, rects_moved}

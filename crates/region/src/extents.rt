@@ -4,9 +4,8 @@ ghost use Rattle.std.specs.Prelude.{◌≡◌, List, map};
 ghost use Rattle.std.specs.Int.{int_min, int_max};
 ghost use Rattle.std.specs.List.{All};
 ghost use Rattle.geom_base.specs.declared.rect.Rect.{Rect};
-ghost use Rattle.geom_base.specs.Points.{HasPoints, moved_rect};
+ghost use Rattle.geom_base.specs.Points.{HasPoints, moved_rect, RectMoves};
 ghost use Rattle.region.specs.Extents.{AreExtents};
-ghost use Rattle.region.specs.Moved.{CanMove};
 
 use geom_base::{NO_RECT, Point, Rect};
 
@@ -44,7 +43,7 @@ pub fn extents_of(rects: &[Rect]) -> Rect
 
 /// The smallest rectangle around rectangles moved, by that around them.
 pub fn moved_extents(extents: Rect, by: Point) -> Rect
-    requires { (rects : List Rect) × AreExtents rects extents × All (CanMove by) rects }
+    requires { (rects : List Rect) × AreExtents rects extents × All (RectMoves by) rects }
     ensures { (rects : List Rect) → AreExtents rects extents → AreExtents (map (λ r. moved_rect r by) rects) result }
 {
     if !extents.has_points() {

@@ -2,8 +2,7 @@
 
 ghost use Rattle.std.specs.Prelude.{◌≡◌, ◌↔◌, ◌+ℤ◌, map, IfOk, IsTrue};
 ghost use Rattle.std.specs.List.{All};
-ghost use Rattle.geom_base.specs.Points.{is_in_some, moved_rect};
-ghost use Rattle.region.specs.Moved.{CanMove};
+ghost use Rattle.geom_base.specs.Points.{is_in_some, moved_rect, RectMoves};
 ghost use Rattle.region.specs.Window.{IsEdge, HasEdges};
 
 use geom_base::{Point, Rect};
@@ -41,7 +40,7 @@ pub fn has_edges(rect: &Rect, by: &Point) -> bool
 
 /// Each rectangle moved.
 pub fn moved_rects(alloc: Global, rects: &[Rect], by: &Point) -> Result<Vec<Rect>, AllocError>
-    requires { All (CanMove by.now) rects.now }
+    requires { All (RectMoves by.now) rects.now }
     ensures { IfOk result (λ r. r.items ≡ map (λ rect. moved_rect rect by.now) rects.now) }
 {
     let mut moved = Vec::from_slice(alloc, rects)?;

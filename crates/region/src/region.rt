@@ -3,10 +3,10 @@
 ghost use Rattle.std.specs.Prelude.{◌≡◌, ◌≤◌, ◌↔◌, Bool, ◌||◌, ◌&&◌, not, false, length, map, IfOk, IfErr, IsTrue, if◌then◌else◌};
 ghost use Rattle.std.specs.List.{All, AllPairs};
 ghost use Rattle.geom_base.specs.declared.point.Point.{Point};
-ghost use Rattle.geom_base.specs.Points.{is_in, is_in_some, moved_rect, AreApart};
+ghost use Rattle.geom_base.specs.Points.{is_in, is_in_some, moved_rect, AreApart, RectMoves, moved_back};
 ghost use Rattle.region.specs.Limits.{most_rects};
 ghost use Rattle.region.specs.InnerBandList.{IsBuilt};
-ghost use Rattle.region.specs.Moved.{CanMove, moved_back, RegionMoves};
+ghost use Rattle.region.specs.Moved.{RegionMoves};
 ghost use Rattle.region.specs.Operation.{holds_after};
 ghost use Rattle.region.specs.Extents.{AreExtents};
 ghost use Rattle.region.specs.Region.{IsRegion, RegionIsUnique, IsRegionOf, SharesPoint};
@@ -187,7 +187,7 @@ impl Region {
     /// Whether all edges moved are from -32768 to 32767.
     pub fn can_offset(&self, by: Point) -> bool
         ensures within { IsTrue result ↔ Within (map (λ rect. moved_rect rect by) self.now) }
-        ensures can_move { IsTrue result → All (CanMove by) self.now }
+        ensures can_move { IsTrue result → All (RectMoves by) self.now }
     {
         if !self.extents.has_points() {
             return true;
@@ -197,7 +197,7 @@ impl Region {
 
     /// The points moved.
     pub fn offset(&self, alloc: Global, by: Point) -> Result<Region, RegionRefusal>
-        requires { All (CanMove by) self.now }
+        requires { All (RectMoves by) self.now }
         ensures answer { IsAnswer (λ p. is_in_some (moved_back by p) self.now) result }
         ensures canonical { Within (map (λ rect. moved_rect rect by) self.now) →
             Gives (canonical_rects (λ p. is_in_some (moved_back by p) self.now)) result }

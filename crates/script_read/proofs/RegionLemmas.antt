@@ -8,13 +8,12 @@ use Rattle.std.proofs.lemmas.Int.{ints}
 use Rattle.std.proofs.lemmas.List.Elements.{All-nil, All-cons, All-head, All-tail}
 use Rattle.geom_base.specs.declared.point.Point.{Point}
 use Rattle.geom_base.specs.declared.rect.Rect.{Rect}
-use Rattle.geom_base.specs.Points.{is_in_some, moved_rect}
+use Rattle.geom_base.specs.Points.{is_in_some, moved_rect, moved_back}
 use Rattle.geom_base.specs.Tests.{same_tests}
 use Rattle.region.specs.Limits.{most_rects}
 use Rattle.region.specs.declared.refusal.RegionRefusal.{RegionRefusal}
 use Rattle.region.specs.declared.refusal.RegionRefusal.TheVariants.{TooMany, NoMemory}
 use Rattle.region.specs.Canonical.{canonical_rects, Gives}
-use Rattle.region.specs.Moved.{moved_back}
 use Rattle.region.specs.Operation.{holds_after}
 use Rattle.region.specs.Window.{IsEdge, HasEdges, Within}
 use Rattle.script_words.specs.declared.refusal.Refusal.{Refusal}

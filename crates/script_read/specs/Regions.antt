@@ -4,10 +4,9 @@ use Rattle.std.specs.List.{list_all}
 use Rattle.std.specs.Str.{bytes_eq}
 use Rattle.geom_base.specs.declared.point.Point.{Point}
 use Rattle.geom_base.specs.declared.rect.Rect.{Rect}
-use Rattle.geom_base.specs.Points.{is_in_some, moved_rect}
+use Rattle.geom_base.specs.Points.{is_in_some, moved_rect, moved_back}
 use Rattle.region.specs.declared.operation.Operation.{Operation}
 use Rattle.region.specs.Canonical.{canonical_rects}
-use Rattle.region.specs.Moved.{moved_back}
 use Rattle.region.specs.Operation.{holds_after}
 use Rattle.region.specs.Window.{window}
 use Rattle.script_words.specs.declared.refusal.Refusal.{Refusal}

@@ -2,10 +2,9 @@
 
 ghost use Rattle.std.specs.Prelude.{◌≡◌, ◌<◌, ◌≤◌, ◌+◌, IfOk, IsTrue, length, map, nat_le, if◌then◌else◌};
 ghost use Rattle.std.specs.List.{All, list_all};
-ghost use Rattle.geom_base.specs.Points.{is_in_some, moved_rect};
+ghost use Rattle.geom_base.specs.Points.{is_in_some, moved_rect, RectMoves};
 ghost use Rattle.region.specs.Limits.{most_rects};
 ghost use Rattle.region.specs.Canonical.{Gives, canonical_rects};
-ghost use Rattle.region.specs.Moved.{CanMove};
 ghost use Rattle.region.specs.Window.{Within};
 ghost use Rattle.script_words.specs.Places.{is_well_ordered};
 ghost use Rattle.script_words.specs.declared.refusal.Refusal.TheVariants.{PastLimit, RegionTooLarge};
@@ -79,7 +78,7 @@ fn shift(words: &[&[u8]]) -> Result<Point, Refusal>
 fn can_shift(region: &Region, by: Point) -> bool
     ensures value { result ≡ list_all has_edges (map (λ r. moved_rect r by) region.now) }
     ensures within { IsTrue result → Within (map (λ r. moved_rect r by) region.now) }
-    ensures can { IsTrue result → All (CanMove by) region.now }
+    ensures can { IsTrue result → All (RectMoves by) region.now }
 {
     region.can_offset(by)
 }

@@ -1,15 +1,14 @@
 use Rattle.std.proofs.Common.{◌∙◌, ap, sym, subst, arith, set, get_or}
 use Rattle.std.proofs.lemmas.List.{get_or_default}
 use Rattle.std.proofs.lemmas.List.Edits.{map_over_more}
-use Rattle.geom_base.specs.Points.{no_rect, moved_rect}
-use Rattle.region.specs.Moved.{CanMove}
+use Rattle.geom_base.specs.Points.{no_rect, moved_rect, RectMoves}
 use Rattle.clip_obj.specs.Clip.{to_origin}
 use Rattle.clip_obj.proofs.MovedLemmas.{not_moved, all_moved}
 use Rattle.clip_obj.proofs.moved.move_to_origin.Goals as goal
 
 pub seen_from-requires : goal.seen_from-requires
 seen_from-requires c =
-    subst (CanMove (to_origin c.args.at.now))
+    subst (RectMoves (to_origin c.args.at.now))
     (sym (not_moved (λ r. moved_rect r (to_origin c.args.at.now)) c.args.rects.now c.loop-i.rects c.loop-i.i no_rect c.loop-i-test.true c.loop-i.invariant))
     (c.requires c.loop-i.i no_rect c.loop-i-test.true)
 

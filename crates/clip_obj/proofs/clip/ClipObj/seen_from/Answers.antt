@@ -1,7 +1,6 @@
 use Rattle.std.proofs.Common.{◌≡◌, ◌∙◌, ap, map, subst}
 use Rattle.std.specs.List.{All}
-use Rattle.geom_base.specs.Points.{moved_rect}
-use Rattle.region.specs.Moved.{CanMove}
+use Rattle.geom_base.specs.Points.{moved_rect, RectMoves}
 use Rattle.region.specs.Region.{IsRegion}
 use Rattle.clip_obj.specs.Clip.{Clip, to_origin}
 use Rattle.clip_obj.proofs.MovedLemmas.{all_move, all_within_moved, list_seen}

@@ -2,12 +2,11 @@ use Rattle.std.proofs.Common.{◌≡◌, ◌≤◌, ◌∙◌, List, refl, ap, s
 use Rattle.std.proofs.lemmas.List.{length-map}
 use Rattle.geom_base.specs.declared.point.Point.{Point}
 use Rattle.geom_base.specs.declared.rect.Rect.{Rect}
-use Rattle.geom_base.specs.Points.{is_in_some, moved_rect}
+use Rattle.geom_base.specs.Points.{is_in_some, moved_rect, RectMoves}
 use Rattle.std.specs.List.{All}
 use Rattle.region.specs.Region.{IsRegion}
 use Rattle.region.specs.Extents.{AreExtents}
 use Rattle.region.specs.InnerExtents.{IsKeptRegion}
-use Rattle.region.specs.Moved.{CanMove}
 use Rattle.region.proofs.CanonicalLaws.{moved_is_canonical}
 use Rattle.region.proofs.MoveLemmas.{moved_answer}
 use Rattle.region.proofs.MovedLaws.{region_moves}
@@ -23,7 +22,7 @@ moved_region by rects moved e h few is extents = subst (λ l. IsKeptRegion l e) 
 })
 
 pub moved_extents-requires : goal.moved_extents-requires
-moved_extents-requires c = (c.self.inside.rects.items, c.self.invariant.extents, subst (All (CanMove c.args.by)) (sym c.self.view_is) c.requires)
+moved_extents-requires c = (c.self.inside.rects.items, c.self.invariant.extents, subst (All (RectMoves c.args.by)) (sym c.self.view_is) c.requires)
 
 pub invariant_of-result : goal.invariant_of-result
 invariant_of-result c =
