@@ -1,9 +1,10 @@
 //! What the calls give by definition.
 
-use crate::calls::{Drawing, FROM, Kind};
+use crate::calls::{FROM, Kind};
 use crate::picture::{BITMAP, Picture, SCREEN, SOURCE};
-use crate::stage::Stage;
-use geom_base::{Point, Rect};
+use crate::stage::value_in;
+use geom_base::{DrawnList, Point, PortAnswer, Rect, Target};
+use mem_port::MemPort;
 use pix_format::Format;
 use std::process::Abort;
 
@@ -15,11 +16,12 @@ pub struct Case {
     pub format: Format,
 }
 
-/// What a call left, and where.
+/// What a call left: the port, the rectangles that were pushed, and the answer.
 #[derive(Drop)]
 pub struct Outcome {
-    pub stage: Stage,
-    pub drawing: Drawing,
+    pub port: MemPort,
+    pub drawn: DrawnList,
+    pub answer: PortAnswer,
 }
 
 /// The values of white and of red, or of what is nearest.
@@ -136,38 +138,37 @@ pub fn covers(rects: &[Rect], p: Point) -> bool {
 
 /// The points that were pushed have the new values, and all others of both targets the old ones.
 pub fn check_pixels(rt: &impl Abort, case: Case, outcome: &Outcome, turn: u64) {
+    let screen = outcome.port.pixels(Target::Screen);
+    let bitmap = outcome.port.pixels(Target::Bitmap(1));
     for y in 0..8 {
         for x in 0..8 {
             let p = Point::at(x, y);
             let old = value_of(SCREEN, case.format, x, y);
-            let want = if covers(outcome.drawing.drawn.rects(), p) {
+            let want = if covers(outcome.drawn.rects(), p) {
                 case.new_value(x, y, old)
             } else {
                 old
             };
-            let got = outcome.stage.on_screen(p);
+            let got = value_in(&screen, p);
             assert_eq!(rt; got, Some(want), "{case:?} {x} {y} at call {turn}");
             let beside = value_of(BITMAP, case.format, x, y);
-            assert_eq!(rt;
-                outcome.stage.on_bitmap(p),
-                Some(beside),
-                "{case:?} {x} {y}"
-            );
+            assert_eq!(rt; value_in(&bitmap, p), Some(beside), "{case:?} {x} {y}");
         }
     }
 }
 
 /// On a wide screen of 8 bits the points that were pushed are white, and all others as they were.
 pub fn check_wide(rt: &impl Abort, outcome: &Outcome) {
+    let screen = outcome.port.pixels(Target::Screen);
     for y in 0..5 {
         for x in 0..2_052 {
             let p = Point::at(x, y);
-            let want = if covers(outcome.drawing.drawn.rects(), p) {
+            let want = if covers(outcome.drawn.rects(), p) {
                 0xff
             } else {
                 SCREEN.value(Format::B8, y * 2_052 + x)
             };
-            assert_eq!(rt; outcome.stage.on_screen(p), Some(want), "{x} {y}");
+            assert_eq!(rt; value_in(&screen, p), Some(want), "{x} {y}");
         }
     }
 }

@@ -89,7 +89,11 @@ fn drawn(
     let region = Region::from_rects(alloc, rects)?;
     let mut stage = Stage::new(alloc, tools, Some(&region), fails, breaks)?;
     let drawing = stage.draw(alloc, case.kind)?;
-    Ok(Outcome { stage, drawing })
+    Ok(Outcome {
+        port: stage.port,
+        drawn: drawing.drawn,
+        answer: drawing.answer,
+    })
 }
 
 /// Draws a call with no failing call, and gives how many calls of the device there were.
@@ -98,16 +102,12 @@ fn draws(rt: &impl Abort, alloc: Global, case: Case) -> Result<u64, Fail>
 {
     let none = no_numbers(alloc);
     let outcome = drawn(alloc, case, SIZE, &parts(), none, no_numbers(alloc))?;
-    let port = &outcome.stage.port;
-    assert_eq!(rt; outcome.drawing.answer, PortAnswer::Done, "{case:?}");
+    let port = &outcome.port;
+    assert_eq!(rt; outcome.answer, PortAnswer::Done, "{case:?}");
     assert_eq!(rt; port.faults(), 0, "{case:?}");
     assert_eq!(rt; port.written(), 3, "{case:?}");
     check_pixels(rt, case, &outcome, 0);
-    assert_eq!(rt;
-        outcome.drawing.drawn.rects(),
-        parts().as_slice(),
-        "{case:?}"
-    );
+    assert_eq!(rt; outcome.drawn.rects(), parts().as_slice(), "{case:?}");
     let calls = port.calls();
     assert!(rt; calls > 2 && calls < 64, "{case:?}");
     Ok(calls)
@@ -119,20 +119,12 @@ fn fails_in_turn(rt: &impl Abort, alloc: Global, case: Case) -> Result<(), Fail>
     for turn in 1..calls + 1 {
         let fails = one_number(alloc, turn)?;
         let outcome = drawn(alloc, case, SIZE, &parts(), fails, no_numbers(alloc))?;
-        assert_eq!(rt;
-            outcome.drawing.answer,
-            PortAnswer::Fault,
-            "{case:?} {turn}"
-        );
-        assert_eq!(rt; outcome.stage.port.faults(), 1, "{case:?} {turn}");
-        assert_eq!(rt; outcome.stage.port.calls(), turn, "{case:?}");
+        assert_eq!(rt; outcome.answer, PortAnswer::Fault, "{case:?} {turn}");
+        assert_eq!(rt; outcome.port.faults(), 1, "{case:?} {turn}");
+        assert_eq!(rt; outcome.port.calls(), turn, "{case:?}");
         let done = (turn + 2).saturating_sub(calls) as usize;
         let parts = parts();
-        assert_eq!(rt;
-            outcome.drawing.drawn.rects(),
-            &parts[..done],
-            "{case:?} {turn}"
-        );
+        assert_eq!(rt; outcome.drawn.rects(), &parts[..done], "{case:?} {turn}");
         check_pixels(rt, case, &outcome, turn);
     }
     Ok(())
@@ -145,19 +137,11 @@ fn breaks_in_turn(rt: &impl Abort, alloc: Global, case: Case) -> Result<(), Fail
         let turn = calls - 2 + done as u64;
         let breaks = one_number(alloc, turn)?;
         let outcome = drawn(alloc, case, SIZE, &parts(), no_numbers(alloc), breaks)?;
-        assert_eq!(rt;
-            outcome.drawing.answer,
-            PortAnswer::Fault,
-            "{case:?} {turn}"
-        );
-        assert_eq!(rt; outcome.stage.port.faults(), 1, "{case:?} {turn}");
+        assert_eq!(rt; outcome.answer, PortAnswer::Fault, "{case:?} {turn}");
+        assert_eq!(rt; outcome.port.faults(), 1, "{case:?} {turn}");
         let mut want = parts();
         want[done] = rows()[done];
-        assert_eq!(rt;
-            outcome.drawing.drawn.rects(),
-            &want[..done + 1],
-            "{case:?} {done}"
-        );
+        assert_eq!(rt; outcome.drawn.rects(), &want[..done + 1], "{case:?} {done}");
         check_pixels(rt, case, &outcome, turn);
     }
     Ok(())
@@ -167,9 +151,9 @@ fn breaks_in_turn(rt: &impl Abort, alloc: Global, case: Case) -> Result<(), Fail
 fn draws_nothing(rt: &impl Abort, alloc: Global, case: Case) -> Result<(), Fail> {
     let none = no_numbers(alloc);
     let outcome = drawn(alloc, case, SIZE, &[], none, no_numbers(alloc))?;
-    assert_eq!(rt; outcome.drawing.answer, PortAnswer::Done, "{case:?}");
-    assert_eq!(rt; outcome.stage.port.calls(), 0, "{case:?}");
-    assert!(rt; outcome.drawing.drawn.rects().is_empty(), "{case:?}");
+    assert_eq!(rt; outcome.answer, PortAnswer::Done, "{case:?}");
+    assert_eq!(rt; outcome.port.calls(), 0, "{case:?}");
+    assert!(rt; outcome.drawn.rects().is_empty(), "{case:?}");
     check_pixels(rt, case, &outcome, 0);
     Ok(())
 }
@@ -233,10 +217,10 @@ fn a_paint_reads_nothing(rt: HostRuntime) -> Result<(), Fail> {
     let none = no_numbers(alloc);
     let rects = [rect(1, 1, 3, 4)];
     let outcome = drawn(alloc, WHITE_PAINT, SIZE, &rects, none, no_numbers(alloc))?;
-    assert_eq!(rt; outcome.drawing.answer, PortAnswer::Done);
-    assert_eq!(rt; outcome.stage.port.calls(), 1);
-    assert_eq!(rt; outcome.stage.port.written(), 1);
-    assert_eq!(rt; outcome.drawing.drawn.rects(), rects.as_slice());
+    assert_eq!(rt; outcome.answer, PortAnswer::Done);
+    assert_eq!(rt; outcome.port.calls(), 1);
+    assert_eq!(rt; outcome.port.written(), 1);
+    assert_eq!(rt; outcome.drawn.rects(), rects.as_slice());
     check_pixels(&rt, WHITE_PAINT, &outcome, 0);
     Ok(())
 }
@@ -248,17 +232,17 @@ fn a_rectangle_in_parts(rt: HostRuntime) -> Result<(), Fail> {
     let whole = [rect(1, 1, 2051, 4)];
     let none = no_numbers(alloc);
     let outcome = drawn(alloc, WHITE_PAINT, WIDE, &whole, none, no_numbers(alloc))?;
-    assert_eq!(rt; outcome.drawing.answer, PortAnswer::Done);
-    assert_eq!(rt; outcome.stage.port.written(), 3);
-    assert_eq!(rt; outcome.stage.port.calls(), 3);
-    assert_eq!(rt; outcome.drawing.drawn.rects(), whole.as_slice());
+    assert_eq!(rt; outcome.answer, PortAnswer::Done);
+    assert_eq!(rt; outcome.port.written(), 3);
+    assert_eq!(rt; outcome.port.calls(), 3);
+    assert_eq!(rt; outcome.drawn.rects(), whole.as_slice());
     check_wide(&rt, &outcome);
     for turn in 2u32..4 {
         let fails = one_number(alloc, u64::from(turn))?;
         let outcome = drawn(alloc, WHITE_PAINT, WIDE, &whole, fails, no_numbers(alloc))?;
-        assert_eq!(rt; outcome.drawing.answer, PortAnswer::Fault, "{turn}");
+        assert_eq!(rt; outcome.answer, PortAnswer::Fault, "{turn}");
         let want = [rect(1, 1, 2051, turn as i32)];
-        assert_eq!(rt; outcome.drawing.drawn.rects(), want.as_slice(), "{turn}");
+        assert_eq!(rt; outcome.drawn.rects(), want.as_slice(), "{turn}");
         check_wide(&rt, &outcome);
     }
     Ok(())
