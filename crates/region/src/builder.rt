@@ -69,7 +69,6 @@ impl RegionBuilder {
     }
 
     /// Adds the columns of two bands to all rows from one to before another, below all rows so far.
-    #[inline(always)]
     pub(crate) fn push_either(
         &mut self,
         top: i32,
@@ -105,7 +104,6 @@ impl RegionBuilder {
     }
 
     /// Ends the last row, where the next one does not touch it.
-    #[inline(always)]
     fn end_before(&mut self, top: &i32) -> Result<(), AllocError>
         requires { (pushed : List Rect) × HasRows pushed top.now self.old }
         ensures { OnOk result ((pushed : List Rect) → HasRows pushed top.now self.old → AreRows pushed top.now self.new.list) }

@@ -28,7 +28,7 @@ use crate::rect_rows::built_by_rows;
 use crate::refusal::RegionRefusal;
 use crate::scan::scanned_bands;
 use crate::sweep::sweep;
-use crate::union::union_rows;
+use crate::union::united;
 use geom_base::{Point, Rect};
 use std::alloc::{AllocError, Global};
 use std::marker::Model;
@@ -130,7 +130,7 @@ impl Region {
         match operation {
             Operation::Intersect if self.is_apart(other) => Ok(region_of_rects(Vec::new(alloc))),
             Operation::Subtract if self.is_apart(other) => Ok(self.copied(alloc)?),
-            Operation::Union => union_rows(alloc, &self.rects, &other.rects)?.finish(),
+            Operation::Union => united(alloc, &self.rects, &other.rects)?.finish(),
             _ => {
                 let bands = combined_bands(
                     alloc,

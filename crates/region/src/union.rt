@@ -33,7 +33,6 @@ fn next_edge(rects: &[Rect], row: &i32) -> i32
 }
 
 /// The next rows, from one to before another, in which either has points, and has the same columns.
-#[inline(always)]
 fn next_rows(a: &[Rect], b: &[Rect], row: &i32) -> Option<(i32, i32)>
     requires left { IsBelow row.now a.now }
     requires right { IsBelow row.now b.now }
@@ -48,7 +47,6 @@ fn next_rows(a: &[Rect], b: &[Rect], row: &i32) -> Option<(i32, i32)>
 }
 
 /// The rectangles that have the rows from one to before another, and those that are left below.
-#[inline(always)]
 fn turn<'a>(rects: &'a [Rect], top: &i32, bottom: &i32) -> (&'a [Rect], &'a [Rect])
     requires { (row : ℤ) × IsSteady row top.now bottom.now rects.now }
     ensures { (row : ℤ) → IsSteady row top.now bottom.now rects.now → IsTurn row top.now bottom.now rects.now result.0.now result.1.now }
@@ -61,8 +59,7 @@ fn turn<'a>(rects: &'a [Rect], top: &i32, bottom: &i32) -> (&'a [Rect], &'a [Rec
 }
 
 /// The points of either of the lists of two regions.
-#[inline(never)]
-pub fn union_rows(alloc: Global, left: &[Rect], right: &[Rect]) -> Result<RegionBuilder, AllocError>
+pub fn united(alloc: Global, left: &[Rect], right: &[Rect]) -> Result<RegionBuilder, AllocError>
     requires left { IsInOrder left.now }
     requires right { IsInOrder right.now }
     ensures { IfOk result (HasPointsOf (λ p. is_in_some p left.now || is_in_some p right.now)) }

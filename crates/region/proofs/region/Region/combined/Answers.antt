@@ -26,28 +26,28 @@ pub returns-in_ok-copied-in-Subtract-clause-canonical : goal.returns-in_ok-copie
 returns-in_ok-copied-in-Subtract-clause-canonical c = λ left right. operation_is_canonical c.args.operation c.args.self.now c.args.other.now
     (Ok c.in_ok-copied-in-Subtract.field-0) left right (returns-in_ok-copied-in-Subtract-clause-answer c)
 
-pub union_rows-requires-clause-left : goal.union_rows-requires-clause-left
-union_rows-requires-clause-left c = subst IsInOrder (sym c.deref.ensures.value) (region_in_order c.self.inside.rects.items c.self.invariant.region)
+pub united-requires-clause-left : goal.united-requires-clause-left
+united-requires-clause-left c = subst IsInOrder (sym c.deref.ensures.value) (region_in_order c.self.inside.rects.items c.self.invariant.region)
 
-pub union_rows-requires-clause-right : goal.union_rows-requires-clause-right
-union_rows-requires-clause-right c = subst IsInOrder (sym c.deref-in-Union.ensures.value) (region_in_order c.other.inside.rects.items c.other.invariant.region)
+pub united-requires-clause-right : goal.united-requires-clause-right
+united-requires-clause-right c = subst IsInOrder (sym c.deref-in-Union.ensures.value) (region_in_order c.other.inside.rects.items c.other.invariant.region)
 
 pub finish-requires : goal.finish-requires
 finish-requires c =
-    let has = c.in_ok-union_rows-in-Union.ensures in
+    let has = c.in_ok-united-in-Union.ensures in
     (has.pushed, has.end, has.rows)
 
-pub returns-in_ok-union_rows-in-Union-clause-answer : goal.returns-in_ok-union_rows-in-Union-clause-answer
-returns-in_ok-union_rows-in-Union-clause-answer c =
-    let has = c.in_ok-union_rows-in-Union.ensures in
+pub returns-in_ok-united-in-Union-clause-answer : goal.returns-in_ok-united-in-Union-clause-answer
+returns-in_ok-united-in-Union-clause-answer c =
+    let has = c.in_ok-united-in-Union.ensures in
     rw c.in-Union.is (answer_alike _ _ c.finish.result (λ p. has.points p
     ∙ ap (λ l. is_in_some p l || is_in_some p c.deref-in-Union.result.now) (c.deref.ensures.value ∙ c.self.view_is)
     ∙ ap (λ l. is_in_some p c.args.self.now || is_in_some p l) (c.deref-in-Union.ensures.value ∙ c.other.view_is))
     (c.finish.ensures.answer has.pushed has.end has.rows))
 
-pub returns-in_ok-union_rows-in-Union-clause-canonical : goal.returns-in_ok-union_rows-in-Union-clause-canonical
-returns-in_ok-union_rows-in-Union-clause-canonical c = λ left right. operation_is_canonical c.args.operation c.args.self.now c.args.other.now _ left right
-    (returns-in_ok-union_rows-in-Union-clause-answer c)
+pub returns-in_ok-united-in-Union-clause-canonical : goal.returns-in_ok-united-in-Union-clause-canonical
+returns-in_ok-united-in-Union-clause-canonical c = λ left right. operation_is_canonical c.args.operation c.args.self.now c.args.other.now _ left right
+    (returns-in_ok-united-in-Union-clause-answer c)
 
 pub returns-in_ok-bands-in_default-clause-answer : goal.returns-in_ok-bands-in_default-clause-answer
 returns-in_ok-bands-in_default-clause-answer c =

@@ -5,7 +5,7 @@ use Rattle.region.specs.Builder.{first_row}
 use Rattle.region.specs.InnerUnion.{first_top}
 use Rattle.region.proofs.BuilderLemmas.{rows_above}
 use Rattle.region.proofs.UnionLemmas.{in_code, joined_none, joined_more, joined_all, fewer_left}
-use Rattle.region.proofs.union.union_rows.Goals as goal
+use Rattle.region.proofs.union.united.Goals as goal
 
 pub loop-top-init : goal.loop-top-init
 loop-top-init c =
