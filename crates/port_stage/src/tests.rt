@@ -74,7 +74,23 @@ fn one_number(alloc: Global, number: u64) -> Result<Counts, AllocError> {
     Ok(Counts::of(numbers))
 }
 
-/// Draws a call on a new stage of a size, in these rectangles; the calls of the one list fail, and the writes of the other after a row.
+/// A new stage of a size with a clip of these rectangles; the calls of the one list fail, and the writes of the other after a row.
+fn stage_of(
+    alloc: Global,
+    case: Case,
+    size: Size,
+    rects: &[Rect],
+    fails: Counts,
+    breaks: Counts,
+) -> Result<Stage, Fail>
+    requires { HasSides size }
+{
+    let tools = Tools::new(alloc, size, case.from, case.format)?;
+    let region = Region::from_rects(alloc, rects)?;
+    Ok(Stage::new(alloc, tools, Some(&region), fails, breaks)?)
+}
+
+/// Draws a call on such a stage.
 fn drawn(
     alloc: Global,
     case: Case,
@@ -85,9 +101,7 @@ fn drawn(
 ) -> Result<Outcome, Fail>
     requires { HasSides size }
 {
-    let tools = Tools::new(alloc, size, case.from, case.format)?;
-    let region = Region::from_rects(alloc, rects)?;
-    let mut stage = Stage::new(alloc, tools, Some(&region), fails, breaks)?;
+    let mut stage = stage_of(alloc, case, size, rects, fails, breaks)?;
     let drawing = stage.draw(alloc, case.kind)?;
     Ok(Outcome {
         port: stage.port,
