@@ -42,16 +42,6 @@ impl Stage {
         let clip = ClipObj::build(alloc, region, tools.size.whole())?;
         Ok(Stage { port, clip, tools })
     }
-
-    /// The value at a point of the screen, or `None` outside.
-    pub fn on_screen(&self, p: Point) -> Option<u32> {
-        value_in(&self.port.pixels(Target::Screen), p)
-    }
-
-    /// The value at a point of the bitmap, or `None` outside.
-    pub fn on_bitmap(&self, p: Point) -> Option<u32> {
-        value_in(&self.port.pixels(Target::Bitmap(1)), p)
-    }
 }
 
 /// The value at a point of a view, or `None` outside.

@@ -224,18 +224,32 @@ const WHITE_PAINT: Case = Case {
     format: Format::B8,
 };
 
-/// A paint in one colour reads nothing: the one call of the device is a write.
-#[test]
-fn a_paint_reads_nothing(rt: HostRuntime) -> Result<(), Fail> {
-    let alloc = rt.alloc();
+/// The calls of the device for a call in one rectangle.
+fn calls_for(rt: &impl Abort, alloc: Global, case: Case) -> Result<u64, Fail> {
     let none = no_numbers(alloc);
     let rects = [rect(1, 1, 3, 4)];
-    let outcome = drawn(alloc, WHITE_PAINT, SIZE, &rects, none, no_numbers(alloc))?;
-    assert_eq!(rt; outcome.answer, PortAnswer::Done);
-    assert_eq!(rt; outcome.port.calls(), 1);
-    assert_eq!(rt; outcome.port.written(), 1);
-    assert_eq!(rt; outcome.drawn.rects(), rects.as_slice());
-    check_pixels(&rt, WHITE_PAINT, &outcome, 0);
+    let outcome = drawn(alloc, case, SIZE, &rects, none, no_numbers(alloc))?;
+    assert_eq!(rt; outcome.answer, PortAnswer::Done, "{case:?}");
+    assert_eq!(rt; outcome.port.written(), 1, "{case:?}");
+    assert_eq!(rt; outcome.drawn.rects(), rects.as_slice(), "{case:?}");
+    check_pixels(rt, case, &outcome, 0);
+    Ok(outcome.port.calls())
+}
+
+/// A paint in one colour, and a copy whose source has all points, read nothing: the one call of the device is a write.
+#[test]
+fn reads_only_what_counts(rt: HostRuntime) -> Result<(), Fail> {
+    for kind in KINDS {
+        let reads = match kind {
+            Kind::Paint | Kind::Whole => 0,
+            Kind::Hatch | Kind::Copy | Kind::Masked | Kind::Mixed => 1,
+            Kind::Overlap | Kind::Across => 2,
+        };
+        for (from, format) in FORMATS {
+            let case = Case { kind, from, format };
+            assert_eq!(rt; calls_for(&rt, rt.alloc(), case)?, reads + 1, "{case:?}");
+        }
+    }
     Ok(())
 }
 
