@@ -1,10 +1,11 @@
 //! Where rows and pixels lie in bytes.
 
-ghost use Rattle.std.specs.Prelude.{◌≡◌, ◌≤◌, ◌<◌, ◌+◌, ◌-◌, ◌*◌, ◌%◌, ◌^◌, pos, ◌≤ℤ◌};
+ghost use Rattle.std.specs.Prelude.{◌≡◌, ◌≤◌, ◌<◌, ◌+◌, ◌-◌, ◌*◌, ◌%◌, ◌^◌, false, pos, ◌≤ℤ◌};
 ghost use Rattle.geom_base.specs.Points.{most_side};
 ghost use Rattle.pix_format.specs.Value.{bits_of};
 ghost use Rattle.surf_obj.specs.InnerRuns.{IsWholePart};
 ghost use Rattle.surf_obj.specs.Layout.{layout_from, row_bytes, row_start, rows_of, delta_of};
+ghost use Rattle.surf_obj.specs.Object.{stride_of};
 
 use geom_base::Size;
 use pix_format::Format;
@@ -32,6 +33,15 @@ impl Layout {
             stride,
             bottom_up,
         }
+    }
+
+    /// The layout of a surface of its own: the top row first, each row padded to four bytes.
+    pub fn padded(size: Size, format: Format) -> Layout
+        requires { size.w ≤ most_side }
+        ensures { result ≡ layout_from size format (stride_of format size.w) false }
+    {
+        let stride = (row_bytes(format, size.w) + 3) / 4 * 4;
+        Layout::new(size, format, stride, false)
     }
 
     /// The layout of so many of its rows, in the same bytes.
