@@ -1,0 +1,12 @@
+use Rattle.brush_obj.specs.declared.draw_call.DrawCall.TheVariants.{Copy}
+use Rattle.copy_port.specs.Given.{given_copy}
+use Rattle.eng_calls.specs.Inputs.{given_of}
+use Rattle.ddi_driver.specs.HookLaws.{hook_given}
+use Rattle.drv_linear.specs.State.{shown_at}
+use Rattle.drv_linear.proofs.driver.LinearDriverDisplayDriver.copy_bits.Goals as goal
+
+pub returns-clause-hook : goal.returns-clause-hook
+returns-clause-hook g c =
+    let d = c.args.self.now in
+    hook_given (Copy c.args.call.now) (given_of c.copy-inputs.result) (given_copy c.args.src c.args.xlate.now c.args.table.now)
+    (shown_at d.screen (g.P.LinearMem.bytes d.port)) c.args.clip.now.rects _ _ _ _ _ c.copy-inputs.ensures (c.draw.ensures.hook _)
