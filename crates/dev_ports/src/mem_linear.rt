@@ -112,3 +112,53 @@ impl LinearMem for MemLinear {
         self.faults
     }
 }
+
+#[cfg(test)]
+mod tests {
+    use super::*;
+    use std::alloc::AllocError;
+    use std::test::Fail;
+
+    fn numbers(alloc: Global, list: &[u64]) -> Result<Counts, AllocError> {
+        Ok(Counts::of(Vec::from_slice(alloc, list)?))
+    }
+
+    #[test]
+    fn touches_fail_by_their_numbers(rt: HostRuntime) -> Result<(), Fail> {
+        let alloc = rt.alloc();
+        let mut device = MemLinear::new(alloc);
+        let fails = numbers(alloc, &[2, 3, 5])?;
+        assert_eq!(rt; device.power_on(alloc, 4, &fails), Ok(()));
+        for (number, failed) in [(1, 0), (2, 1), (3, 2), (4, 2), (5, 3), (6, 3)] {
+            let before = device.faults();
+            let touched = device.touch();
+            assert_eq!(rt; device.faults(), failed, "{number}");
+            assert_eq!(rt; touched.is_err(), device.faults() > before, "{number}");
+        }
+        Ok(())
+    }
+
+    #[test]
+    fn powering_on_begins_anew(rt: HostRuntime) -> Result<(), Fail> {
+        let alloc = rt.alloc();
+        let mut device = MemLinear::new(alloc);
+        let first = numbers(alloc, &[1])?;
+        assert_eq!(rt; device.power_on(alloc, 3, &first), Ok(()));
+        assert_eq!(rt; device.touch(), Err(PortFault));
+        device.bits().fill(7);
+        assert_eq!(rt; &*device.bits(), [7, 7, 7].as_slice());
+        device.power_off();
+        let at_once = numbers(alloc, &[0])?;
+        assert_eq!(rt;
+            device.power_on(alloc, 3, &at_once),
+            Err(PowerRefusal::Fault)
+        );
+        assert_eq!(rt; device.faults(), 2);
+        let none = numbers(alloc, &[])?;
+        assert_eq!(rt; device.power_on(alloc, 2, &none), Ok(()));
+        assert_eq!(rt; &*device.bits(), [0, 0].as_slice());
+        assert_eq!(rt; device.touch(), Ok(()));
+        assert_eq!(rt; device.faults(), 2);
+        Ok(())
+    }
+}

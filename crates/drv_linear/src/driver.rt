@@ -12,7 +12,7 @@ use copy_port::{
     Class, Classes, CopyPort, Hooks, Kind, Limit, Mode, Pictured, Realizer, TargetInfo, class_of,
 };
 use ddi_driver::{CreateAnswer, DisplayDriver, EnableRefusal, HookAnswer, Stats};
-use dev_ports::{LinearMem, PowerRefusal};
+use dev_ports::{LinearMem, PortFault, PowerRefusal};
 use eng_calls::{Inputs, eng_draw};
 use geom_base::{DrawnList, PortAnswer, Rect, Size, Target};
 use pix_format::{ColourTable, XlateObj};
@@ -115,10 +115,9 @@ impl<P: LinearMem> CopyPort for LinearDriver<P> {
         ensures touched { P.touches self.new.port ≡ next_count (P.touches self.old.port) }
         ensures memory { ¬ (result ≡ answers.NoMemory) }
     {
-        if self.port.touch().is_err() {
-            PortAnswer::Fault
-        } else {
-            PortAnswer::Done
+        match self.port.touch() {
+            Ok(()) => PortAnswer::Done,
+            Err(PortFault) => PortAnswer::Fault,
         }
     }
 
