@@ -1,6 +1,10 @@
 //! The driver.
 
-ghost use Rattle.std.specs.Prelude.{◌≡◌, length};
+ghost use Rattle.std.specs.Prelude.{◌≡◌, false, length};
+ghost use Rattle.std.specs.Option.{option_map_or};
+ghost use Rattle.brush_obj.specs.Brush.{is_solid};
+ghost use Rattle.copy_port.specs.Classes.{class_of};
+ghost use Rattle.eng_calls.specs.Inputs.{given_of};
 ghost use Rattle.drv_linear.specs.State.{HoldsScreen};
 
 use crate::policy::Policy;
@@ -411,12 +415,6 @@ impl<P: LinearMem> LinearDriver<P> {
         eng_draw(alloc, self.port.bits(), screen.layout, call, inputs, clip)
     }
 }
-
-ghost use Rattle.std.specs.Prelude.{false};
-ghost use Rattle.std.specs.Option.{option_map_or};
-ghost use Rattle.brush_obj.specs.Brush.{is_solid};
-ghost use Rattle.copy_port.specs.Classes.{class_of};
-ghost use Rattle.eng_calls.specs.Inputs.{given_of};
 
 /// The class of a call by its brush.
 fn class_with(call: &DrawCall, inputs: &Inputs<'_, '_>) -> Class
