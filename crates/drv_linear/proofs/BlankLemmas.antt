@@ -6,7 +6,8 @@ use Rattle.std.specs.Int.{bit_at}
 use Rattle.geom_base.specs.GridLaws.{same_grid}
 use Rattle.pix_format.specs.declared.format.Format.{Format}
 use Rattle.pix_format.specs.declared.format.Format.TheVariants.{B1, B4, B8, B555, B565, B24, B32}
-use Rattle.surf_obj.specs.Layout.{Layout, row_start, pixel_in, values_in}
+use Rattle.surf_obj.specs.Layout.{pixel_in, row_start, values_in}
+use Rattle.surf_obj.specs.declared.layout.Layout.{Layout}
 
 -- an item of a list of zeros
 get_or-zeros : (n i : ℕ) → get_or {A = ℕ} (replicate n 0) i 0 ≡ 0
