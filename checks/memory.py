@@ -3,9 +3,9 @@
 
     memory.py --gdi PATH [--oracle DIR]
 
-A run that a refusal ends has status 4 and a first part of the text. Any other has the text of the run in which the drawing that it reports
-draws nothing, with that report, and status 9; or the whole text and status 0 where nothing is reported. With an oracle each text is also
-asked of it. It wants gdb, since a proved program is built once and has no word that refuses memory.
+A run that a refusal ends has status 4 and a first part of the text. Any other has the text of the run in which the command that wanted memory
+does nothing, with the lines of a drawing's report, or the one line of a dump or sum that could not be read, and status 9; or the whole text and
+status 0 where nothing wanted memory. With an oracle each text is also asked of it. It wants gdb, since a proved program is built once and has no word that refuses memory.
 """
 import argparse
 import json
@@ -22,7 +22,9 @@ from asking import CONFIG, programs_answer, told
 
 HERE = Path(__file__).resolve().parent
 DESKTOP = HERE.parent / "examples" / "desktop.gdi"
-REPORT = re.compile(rb"command (\d+) memory \S+ 0\n")
+REPORT = re.compile(rb"^command (\d+) memory \S+ 0\n", re.MULTILINE)
+UNREAD = re.compile(rb"^(?:dump|sum) \S+ memory\n", re.MULTILINE)
+READING = re.compile(rb"^(?:dump|sum) ", re.MULTILINE)
 DRAWS_NOTHING = b"paint screen 0 0 0 0 #000000 13"
 DONE, NO_MEMORY, MEMORY_SEEN = 0, 4, 9
 
@@ -42,6 +44,7 @@ SCRIPTS = {
     "bitmap": "bitmap first 2 2 4\nbitmap second 3 1 8\ndelete first\nbitmap third 1 1 565\nsum second\ndump third\n",
     "table": "table two FF0000 0000FF\nbitmap mono 3 1 1 two\npixels mono 0 0 1 0 1\ncopy screen 0 0 3 1 mono 0 0\n",
     "brush": "dump 0\nbrush plain solid 00FF00\ndump 0\nbrush lines hatch vertical 000000 FFFFFF\npaint screen 0 0 4 2 plain 13\n",
+    "reads": "sum 0\nbitmap wide 8 4 32\ndump wide\ndump 0\nsum wide\nbitmap wider 9 5 32\nsum wider\n",
     "region": SCREEN + CLIP + "region moved offset steps 1 0\nregion both union steps moved\nclip both\npaint screen 0 0 4 2 #FFFFFF 13\n",
 }
 
@@ -75,22 +78,35 @@ def all_runs(gdi, folder):
         return [run for some in runs for run in some]
 
 
-def without(data, number):
-    """An input whose command of a number draws nothing."""
+def with_commands(data):
+    """The lines of an input, and at which of them its commands stand."""
     lines = data.split(b"\n")
     first = lines.index(b"%%") + 1
-    commands = [at for at in range(first, len(lines)) if lines[at].strip(b" ") and not lines[at].startswith(b"#")]
+    return lines, [at for at in range(first, len(lines)) if lines[at].strip(b" ") and not lines[at].startswith(b"#")]
+
+
+def without(data, number):
+    """An input whose command of a number does nothing."""
+    lines, commands = with_commands(data)
     lines[commands[number - 1]] = DRAWS_NOTHING
     return b"\n".join(lines)
 
 
+def wanting(data, text):
+    """The numbers of the commands of which a text says that they wanted memory: the drawings, and then the readings."""
+    lines, commands = with_commands(data)
+    readings = [number for number, at in enumerate(commands, 1) if READING.match(lines[at].lstrip(b" "))]
+    unread = [readings[len(READING.findall(text, 0, found.start()))] for found in UNREAD.finditer(text)]
+    return [int(number) for number in REPORT.findall(text)] + unread
+
+
 def is_right(gdi, data, whole, text, status):
     """Whether a run may end so."""
-    reports = REPORT.findall(text)
+    numbers = wanting(data, text)
     if status == NO_MEMORY:
-        return not reports and whole.startswith(text) and (not text or text.endswith(b"\n"))
-    if status == MEMORY_SEEN and len(reports) == 1:
-        return programs_answer(gdi, without(data, int(reports[0]))) == (REPORT.sub(b"", text), DONE)
+        return not numbers and whole.startswith(text) and (not text or text.endswith(b"\n"))
+    if status == MEMORY_SEEN and len(numbers) == 1:
+        return programs_answer(gdi, without(data, numbers[0])) == (UNREAD.sub(b"", REPORT.sub(b"", text)), DONE)
     return (text, status) == (whole, DONE)
 
 

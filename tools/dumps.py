@@ -32,6 +32,8 @@ def read_dumps(output):
 
 def read_dump(words, lines):
     """The dump whose first line has these words; its rows are taken from the lines."""
+    if len(words) == 3:
+        raise ValueError(f"{words[1]} could not be read: {words[2]}")
     if len(words) != 5 or words[4] not in DIGITS:
         raise ValueError(f"`{' '.join(words)}` isn't the first line of a dump")
     _, name, width, height, form = words

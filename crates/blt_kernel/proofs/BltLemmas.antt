@@ -5,16 +5,15 @@ use Rattle.std.specs.Borrow.{Bor}
 use Rattle.geom_base.specs.declared.point.Point.{Point}
 use Rattle.geom_base.specs.declared.size.Size.{Size}
 use Rattle.geom_base.specs.declared.target.Target.{Target}
-use Rattle.geom_base.specs.Points.{is_in, point_at, whole}
+use Rattle.geom_base.specs.Points.{point_at}
 use Rattle.pix_format.specs.declared.format.Format.{Format}
 use Rattle.pix_format.specs.Value.{bits_of}
 use Rattle.pix_format.specs.Xlate.{Translation, translated}
 use Rattle.rop_mix.specs.Needs.{source_needed, pattern_needed, mask_needed}
 use Rattle.rop_mix.specs.Rop.{rop4_of}
 use Rattle.geom_base.specs.Step.{Change, value_after, redrawn}
-use Rattle.surf_obj.specs.Lent.{size_of, format_of, values_of}
-use Rattle.geom_base.specs.Grid.{value_at, value_of_point}
-use Rattle.surf_obj.specs.View.{view_size, view_values}
+use Rattle.surf_obj.specs.Lent.{size_of, values_of}
+use Rattle.geom_base.specs.Grid.{value_at}
 use Rattle.surf_obj.specs.declared.lent.LentSurf.{LentSurf}
 use Rattle.surf_obj.specs.declared.view.LentView.{LentView}
 use Rattle.geom_base.specs.StepLaws.{redrawn_grid, redrawn_none}

@@ -1,12 +1,11 @@
 -- Rows that are copied as bytes.
-use Rattle.std.proofs.Common.{◌≡◌, ℕ, pos, ◌+◌, ◌-◌, ◌*◌, ◌/◌, ◌^◌, ◌<◌, List, length, refl, sym, subst, ap, ◌∙◌, arith, Option, Some}
+use Rattle.std.proofs.Common.{◌≡◌, ℕ, pos, ◌+◌, ◌-◌, ◌*◌, ◌/◌, ◌^◌, ◌<◌, List, length, sym, subst, ap, ◌∙◌, arith, Option, Some}
 use Rattle.geom_base.specs.declared.point.Point.{Point}
 use Rattle.geom_base.specs.declared.size.Size.{Size}
 use Rattle.geom_base.specs.Points.{is_in, box_of, point_at}
 use Rattle.pix_format.specs.declared.format.Format.{Format}
 use Rattle.pix_format.specs.Value.{bits_of}
-use Rattle.pix_format.specs.Xlate.{Translation, translated}
-use Rattle.pix_format.specs.XlateLaws.{Decides-same_kind}
+use Rattle.pix_format.specs.Xlate.{translated}
 use Rattle.rop_mix.specs.Rop.{rop3_of}
 use Rattle.surf_obj.specs.Lent.{size_of, format_of, values_of}
 use Rattle.surf_obj.specs.Runs.{copied}
@@ -25,10 +24,6 @@ use Rattle.blt_kernel.specs.declared.source.SourcePixels.{SourcePixels}
 use Rattle.blt_kernel.proofs.ShiftLemmas.{value_along}
 use Rattle.blt_kernel.proofs.DrawLemmas.{drawn_value-unmasked}
 use Rattle.blt_kernel.proofs.PartLemmas.{in_box}
-
--- a translation between surfaces of one format and table changes no value
-pub kept_values : (t : Translation) (v : ℕ) → (t.from ≡ t.to) × (t.from_table ≡ t.to_table) → translated t v ≡ v
-kept_values t v same = rw ((Decides-same_kind t.from t.from_table t.to t.to_table).1 same) refl
 
 -- a row that was copied has the values that belong to its points
 pub copied_across : (size : Size) (old : List ℕ) (shift : Shift) (from : Size) (values : List ℕ) (x y len cx cy : ℕ) → length old ≡ size.w * size.h →

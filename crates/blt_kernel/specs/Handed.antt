@@ -1,22 +1,13 @@
 -- What kernels are handed, as the operands of a call.
-use Rattle.std.specs.Prelude.{◌≡◌, ℕ, Bool, Option, Some, None, option_map, if◌then◌else◌}
+use Rattle.std.specs.Prelude.{◌≡◌, ℕ, Option, Some, None}
 use Rattle.std.specs.Borrow.{Bor}
 use Rattle.geom_base.specs.declared.point.Point.{Point}
-use Rattle.geom_base.specs.declared.rect.Rect.{Rect}
 use Rattle.geom_base.specs.declared.target.Target.{Target}
 use Rattle.pix_format.specs.declared.format.Format.{Format}
 use Rattle.pix_format.specs.Xlate.{Translation}
 use Rattle.surf_obj.specs.View.{view_size, view_format, view_values}
 use Rattle.surf_obj.specs.declared.view.LentView.{LentView}
 use Rattle.brush_obj.specs.Calls.{not_there, shown}
-use Rattle.brush_obj.specs.declared.blt_call.BltCall.{BltCall}
-use Rattle.rop_mix.specs.Needs.{source_needed, mask_needed, pattern_needed}
-use Rattle.blt_kernel.specs.declared.shift.Shift.{Shift}
-use Rattle.blt_kernel.specs.declared.drawing.Drawing.{Drawing}
-use Rattle.brush_obj.specs.declared.ink.Ink.{Ink}
-use Rattle.brush_obj.specs.declared.ink.Ink.TheVariants.{Solid}
-use Rattle.blt_kernel.specs.declared.mask.Mask.{Mask}
-use Rattle.blt_kernel.specs.declared.source.SourcePixels.{SourcePixels}
 
 -- the values of a view
 abbrev pub viewed : Bor LentView → Point → Option ℕ

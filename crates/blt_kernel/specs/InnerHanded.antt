@@ -1,14 +1,10 @@
 -- Inner: what kernels are handed, as the drawing that they make of it.
-use Rattle.std.specs.Prelude.{◌≡◌, ℕ, Bool, Option, Some, None, option_map, if◌then◌else◌}
+use Rattle.std.specs.Prelude.{Bool, Option, Some, None, option_map, if◌then◌else◌}
 use Rattle.std.specs.Borrow.{Bor}
 use Rattle.geom_base.specs.declared.point.Point.{Point}
 use Rattle.geom_base.specs.declared.rect.Rect.{Rect}
-use Rattle.geom_base.specs.declared.target.Target.{Target}
-use Rattle.pix_format.specs.declared.format.Format.{Format}
 use Rattle.pix_format.specs.Xlate.{Translation}
-use Rattle.surf_obj.specs.View.{view_size, view_format, view_values}
 use Rattle.surf_obj.specs.declared.view.LentView.{LentView}
-use Rattle.brush_obj.specs.Calls.{not_there, shown}
 use Rattle.brush_obj.specs.declared.blt_call.BltCall.{BltCall}
 use Rattle.rop_mix.specs.Needs.{source_needed, mask_needed, pattern_needed}
 use Rattle.blt_kernel.specs.declared.shift.Shift.{Shift}

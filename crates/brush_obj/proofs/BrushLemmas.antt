@@ -1,5 +1,5 @@
 -- The value of a brush at a point.
-use Rattle.std.proofs.Common.{◌≡◌, ℕ, pos, ◌+ℤ◌, ◌-ℤ◌, ◌+◌, ◌-◌, ◌*◌, ◌/◌, ◌%◌, ◌<◌, ◌≤◌, List, length, add-zero, get_or, refl, ◌∙◌, subst, arith}
+use Rattle.std.proofs.Common.{◌≡◌, ℕ, pos, ◌+ℤ◌, ◌-ℤ◌, ◌+◌, ◌-◌, ◌*◌, ◌/◌, ◌%◌, ◌<◌, ◌≤◌, List, length, add-zero, get_or, refl, ◌∙◌, arith}
 use Rattle.std.specs.List.{slice_range}
 use Rattle.std.proofs.lemmas.List.Edits.{get_or-between, length-between}
 use Rattle.std.proofs.lemmas.Nat.{mul-add-lt, mod_below, mod-mul-add, div-mul-add}
@@ -17,7 +17,7 @@ use Rattle.brush_obj.specs.declared.hatch_values.HatchValues.{HatchValues}
 use Rattle.brush_obj.specs.Hatches.{hatch_value, value_of_hatch}
 use Rattle.brush_obj.specs.Brush.{size_of, tile_value, tiled, tiled_values, brush_value, IsRealised}
 use Rattle.brush_obj.specs.Realised.{Realised}
-use Rattle.brush_obj.specs.Wrapping.{from_origin, wrapped}
+use Rattle.brush_obj.specs.Wrapping.{wrapped}
 use Rattle.brush_obj.proofs.WrapLemmas.{column_after, wrapped-below}
 
 -- the value of a pixel of a row of a hatch in two values, likewise

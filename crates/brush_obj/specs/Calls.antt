@@ -1,5 +1,5 @@
 -- One drawing call on one surface: which points it reaches, and the new value of each, from the values before the call alone.
-use Rattle.std.specs.Prelude.{◌≡◌, ◌+ℤ◌, FitsSigned, IfSome, IsTrue, ℕ, pos, ◌-ℤ◌, List, Option, None, Some, is_some, Bool, true, false, if◌then◌else◌, ◌==◌, option_map}
+use Rattle.std.specs.Prelude.{◌≡◌, ◌<◌, ◌^◌, ◌+ℤ◌, FitsSigned, IfSome, IsTrue, ℕ, pos, ◌-ℤ◌, List, Option, None, Some, is_some, Bool, true, false, if◌then◌else◌, ◌==◌, option_map}
 use Rattle.std.specs.Int.{w32}
 use Rattle.geom_base.specs.declared.point.Point.{Point}
 use Rattle.geom_base.specs.declared.rect.Rect.{Rect}
@@ -214,3 +214,7 @@ FindsSource c o p = IsTrue (reads_source c) → IsTrue (is_some (o.source (sourc
 -- what a call gives a point whose source it finds is the same whatever the point had
 abbrev pub IgnoresTarget : DrawCall → Type 0
 IgnoresTarget c = (o : Operands) (p : Point) (d e : ℕ) → FindsSource c o p → value_after (new_of_call c o) p d ≡ value_after (new_of_call c o) p e
+
+-- a call gives each point that has a source the source's value
+abbrev pub CopiesSource : DrawCall → Type 0
+CopiesSource c = (o : Operands) (p : Point) (d v : ℕ) → o.source (source_point c p) ≡ Some v → v < 2 ^ bits_of o.format → new_of_call c o p d ≡ Some v

@@ -22,6 +22,9 @@ pub struct CopyCall {
 /// The point 0 0.
 pub const ZERO: Point = Point { x: 0, y: 0 };
 
+/// The code of the raster operation that takes the source as it is.
+pub const SOURCE_ALONE: u16 = 0xcccc;
+
 impl CopyCall {
     ghost use Rattle.brush_obj.specs.Calls.{moved_copy, Operands, blt_of, new_of_blt, new_of_copy, point_across};
 
@@ -42,7 +45,7 @@ impl CopyCall {
             src: self.src,
             mask: ZERO,
             origin: ZERO,
-            rop: Rop4::of(0xcccc),
+            rop: Rop4::of(SOURCE_ALONE),
         }
     }
 

@@ -1,10 +1,10 @@
 //! Any drawing call.
 
-ghost use Rattle.std.specs.Prelude.{◌≡◌, false};
+ghost use Rattle.std.specs.Prelude.{◌≡◌, IsTrue, false};
 ghost use Rattle.brush_obj.specs.Calls.{CallsLend, CallsMove};
 
 use crate::blt_call::BltCall;
-use crate::copy_call::{CopyCall, ZERO};
+use crate::copy_call::{CopyCall, SOURCE_ALONE, ZERO};
 use crate::paint_call::PaintCall;
 use crate::shifting::shifted_back;
 use geom_base::{Point, Rect, Target};
@@ -19,7 +19,7 @@ pub enum DrawCall {
 }
 
 impl DrawCall {
-    ghost use Rattle.brush_obj.specs.Calls.{CallMoves, IgnoresTarget, PointMovesBack, held_of, lent_call, moved_call, reads_source, rect_of, src_of, target_of};
+    ghost use Rattle.brush_obj.specs.Calls.{CallMoves, CopiesSource, IgnoresTarget, PointMovesBack, held_of, lent_call, moved_call, reads_source, rect_of, src_of, target_of};
 
     /// The target that it draws on.
     pub fn target(&self) -> Target
@@ -75,6 +75,17 @@ impl DrawCall {
             DrawCall::Blt(call) => call.reads_target(),
             DrawCall::Copy(call) => call.as_blt().reads_target(),
             DrawCall::Paint(call) => call.reads_target(),
+        }
+    }
+
+    /// Whether it gives each point that has a source the source's value.
+    pub fn copies_source(&self) -> bool
+        ensures gives { IsTrue result → CopiesSource self.now }
+        ensures reads { IsTrue result → IsTrue (reads_source self.now) }
+    {
+        match self {
+            DrawCall::Blt(call) => call.rop.code == SOURCE_ALONE,
+            _ => matches!(self, DrawCall::Copy(_)),
         }
     }
 

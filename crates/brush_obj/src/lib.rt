@@ -43,4 +43,5 @@ pub use paint_call::PaintCall;
 pub use pattern::Pattern;
 pub use rbrush::RBrush;
 pub use refusal::BrushRefusal;
+pub use shifting::shifted_back;
 pub use tile::{MOST_VALUES, Tile};

@@ -17,6 +17,7 @@ mod moved;
 pub use clip::ClipObj;
 pub use complexity::Complexity;
 pub use direction::Direction;
+pub use moved::{origin_from, seen_from};
 
 #[cfg(test)]
 mod tests;

@@ -1,11 +1,24 @@
 //! Rectangles seen from a point.
 
-ghost use Rattle.std.specs.Prelude.{◌≡◌, map};
+ghost use Rattle.std.specs.Prelude.{◌≡◌, ◌-ℤ◌, FitsSigned, map, pos};
+ghost use Rattle.std.specs.Int.{w32};
 ghost use Rattle.std.specs.List.{All};
 ghost use Rattle.geom_base.specs.Points.{moved_rect, RectMoves};
 ghost use Rattle.clip_obj.specs.Clip.{to_origin};
 
 use geom_base::{Point, Rect};
+
+/// Where 0 0 is, seen from a point.
+pub fn origin_from(at: &Point) -> Point
+    requires column { FitsSigned w32 (pos 0 -ℤ at.now.x) }
+    requires row { FitsSigned w32 (pos 0 -ℤ at.now.y) }
+    ensures { result ≡ to_origin at.now }
+{
+    Point {
+        x: 0 - at.x,
+        y: 0 - at.y,
+    }
+}
 
 /// The rectangle moved so that a point becomes 0 0.
 pub fn seen_from(at: &Point, rect: &Rect) -> Rect

@@ -1,14 +1,19 @@
 -- Laws of the hook contract, for drivers: one for each way in which a hook ends.
-use Rattle.std.proofs.Common.{◌≡◌, ◌∙◌, ◌*◌, ◌≤◌, false, IsTrue, List, length, refl, ap, sym, subst, arith, true≢false}
+use Rattle.std.proofs.Common.{◌≡◌, ◌∙◌, ◌*◌, ◌≤◌, ◌||◌, false, IsTrue, List, [], get_or, length, refl, ap, sym, subst, arith, true≢false}
+use Rattle.std.specs.List.{All}
+use Rattle.std.proofs.lemmas.List.Folds.{list_any_at}
 use Rattle.geom_base.specs.declared.point.Point.{Point}
 use Rattle.geom_base.specs.declared.port_answer.PortAnswer.{PortAnswer}
 use Rattle.geom_base.specs.declared.port_answer.PortAnswer.TheVariants as port
 use Rattle.geom_base.specs.declared.rect.Rect.{Rect}
 use Rattle.geom_base.specs.declared.target.Target.{Target}
 use Rattle.geom_base.specs.Drawn.{Drawn}
-use Rattle.geom_base.specs.Points.{is_in_some}
+use Rattle.geom_base.specs.PointLaws.{is_in-IsIn}
+use Rattle.geom_base.specs.Points.{HasPoints, is_in, is_in_some}
 use Rattle.geom_base.specs.Step.{Area, nowhere}
 use Rattle.brush_obj.specs.declared.draw_call.DrawCall.{DrawCall}
+use Rattle.clip_obj.specs.Clip.{LiesWithin}
+use Rattle.clip_obj.specs.ClipLaws.{clip_in, lies_within}
 use Rattle.copy_port.specs.Given.{Asked, Given, asked_of}
 use Rattle.copy_port.specs.Laws.{drawn_on-nowhere, pushes_none}
 use Rattle.copy_port.specs.Port.{Draws, Pushes}
@@ -148,3 +153,24 @@ hook_punted a before mid after d e answer c h written =
 pub hook_given : (call : DrawCall) (g h : Given) (m : Shown) (rects : List Rect) (before after : PortState) (d e : Drawn) (answer : HookAnswer) → g ≡ h →
     HookContract (asked_of call g m rects) before after d e answer → HookContract (asked_of call h m rects) before after d e answer
 hook_given call g h m rects before after d e answer same k = subst (λ (x : Given). HookContract (asked_of call x m rects) before after d e answer) same k
+
+-- what no call of a port changes
+
+pub same_mode : (a b : Rest) → b ≡ a → SameMode a b
+same_mode a b e = rw e (record { driver = record { kind = refl; limits = refl }; enabled = refl; hooks = refl; cuts = refl })
+
+pub same_bitmaps : (a b : Rest) → b ≡ a → SameBitmaps a b
+same_bitmaps a b e = rw e (record { asked = refl; made = refl })
+
+-- rectangles with points whose points are those of a clip lie within the clip's bounds
+pub pushed_within : (bounds : Rect) (clip rects : List Rect) → ((p : Point) → IsTrue (is_in_some p rects) → IsTrue (is_in_some p clip)) →
+    All (LiesWithin bounds) clip → All HasPoints rects → All (LiesWithin bounds) rects
+pushed_within bounds clip rects within inside points = λ k d lt.
+    lies_within (get_or rects k d) bounds (λ p h. (is_in-IsIn p bounds).0 (clip_in bounds clip p inside
+    (within p (list_any_at (λ r. is_in p r) rects k d lt ((is_in-IsIn p (get_or rects k d)).1 h))))) (points k d lt)
+
+-- so what a hook pushes onto an empty list has points, and lies within the bounds of its clip
+pub hook_pushed_within : (a : Asked) (bounds : Rect) (before after : PortState) (d e : Drawn) (answer : HookAnswer) → HookContract a before after d e answer →
+    d.rects ≡ [] → All (LiesWithin bounds) a.clip → All HasPoints e.rects → All (LiesWithin bounds) e.rects
+hook_pushed_within a bounds before after d e answer h empty clip points =
+    pushed_within bounds a.clip e.rects (λ p t. h.within p (sym (h.pushes.points p ∙ ap (λ (rects : List Rect). is_in_some p rects || h.more p) empty) ∙ t)) clip points

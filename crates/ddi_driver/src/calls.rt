@@ -1,16 +1,19 @@
 //! The calls of a driver on the shelf.
 
-ghost use Rattle.std.specs.Prelude.{◌≡◌, ◌*◌, ◌<◌, ◌≤◌, ◌^◌, false, length, IsTrue};
+ghost use Rattle.std.specs.Prelude.{◌≡◌, ◌*◌, ◌<◌, ◌≤◌, ◌^◌, false, length, IfErr, IfOk, IfSome, IsTrue};
 ghost use Rattle.std.specs.List.{All};
+ghost use Rattle.geom_base.specs.declared.port_answer.PortAnswer.TheVariants.{Done};
 ghost use Rattle.geom_base.specs.declared.target.Target.TheVariants.{Screen};
-ghost use Rattle.geom_base.specs.Points.{height_of, is_in_some, width_of};
+ghost use Rattle.geom_base.specs.Points.{HasPoints, height_of, is_in_some, width_of};
 ghost use Rattle.pix_format.specs.Value.{bits_of};
 ghost use Rattle.surf_obj.specs.Rects.{ReadsRect};
+ghost use Rattle.brush_obj.specs.Calls.{held_of};
 ghost use Rattle.copy_port.specs.Classes.{has_hook};
 ghost use Rattle.copy_port.specs.declared.hooks.Hook.{Hook};
-ghost use Rattle.copy_port.specs.Given.{CanDraw, asked_of};
+ghost use Rattle.copy_port.specs.Given.{CanDraw, HasCoordinates, asked_of};
 ghost use Rattle.copy_port.specs.Port.{Draws, IfDone, InTarget, Keeps};
-ghost use Rattle.copy_port.specs.State.{surface_of};
+ghost use Rattle.copy_port.specs.State.{IsLive, surface_of};
+ghost use Rattle.eng_calls.specs.Copies.{HeldFor, LiesOnTarget, ended};
 ghost use Rattle.eng_calls.specs.Inputs.{given_of};
 ghost use Rattle.ddi_driver.specs.Bitmaps.{Creates, Deletes, HasBitmap};
 ghost use Rattle.ddi_driver.specs.Enabling.{Disables, Enables};
@@ -26,7 +29,7 @@ use crate::driver_port::DriverPort;
 use brush_obj::{BrushObj, DrawCall};
 use clip_obj::ClipObj;
 use copy_port::{CopyPort, Hooks, Kind, Limit, Mode, Pictured};
-use eng_calls::{Inputs, eng_draw_managed};
+use eng_calls::{Inputs, PartCopy, eng_draw_managed, held_part};
 use geom_base::{DrawnList, PortAnswer, Rect, Size, Target};
 use pix_format::{ColourTable, XlateObj};
 use std::alloc::Global;
@@ -178,4 +181,28 @@ pub fn read_port(driver: &mut DriverPort, target: Target, rect: Rect, out: &mut 
         IfDone result (All (λ v. v < 2 ^ bits_of s.format) out.new) }
 {
     driver.driver.read_rect(target, rect, out)
+}
+
+/// Reads what a source that a driver holds has for the points of a frame: `held_part` of it.
+///
+/// # Errors
+///
+/// As `held_part`.
+pub fn read_held(
+    alloc: Global,
+    driver: &mut DriverPort,
+    call: &DrawCall,
+    frame: &Rect,
+    room: &mut [u32],
+) -> Result<Option<PartCopy>, PortAnswer>
+    requires coordinates { HasCoordinates call.now }
+    requires held { IfSome (held_of call.now) (IsLive (⟦<DriverPort as Pictured>⟧.state driver.old).shown) }
+    requires frame { LiesOnTarget frame.now }
+    requires points { HasPoints frame.now }
+    requires room { width_of frame.now ≤ length room.old }
+    ensures keeps { Keeps (⟦<DriverPort as Pictured>⟧.state driver.old) (⟦<DriverPort as Pictured>⟧.state driver.new) (ended result) }
+    ensures ok { IfOk result (HeldFor (held_of call.now) call.now (⟦<DriverPort as Pictured>⟧.state driver.old).shown frame.now) }
+    ensures err { IfErr result (λ answer. ¬ (answer ≡ Done)) }
+{
+    held_part(alloc, driver, call, frame, room)
 }

@@ -15,7 +15,7 @@ mod driver_port;
 pub use answers::{CreateAnswer, EnableRefusal, HookAnswer};
 pub use calls::{
     ask, create_bitmap, delete_bitmap, disable, draw_managed, enable, hooks, is_enabled, kind,
-    max_cuts, mode_limit, read_port, stats,
+    max_cuts, mode_limit, read_held, read_port, stats,
 };
 pub use counts::Stats;
 pub use driver::DisplayDriver;

@@ -6,7 +6,9 @@ use Rattle.std.proofs.lemmas.List.Concat.{flat_map-append}
 use Rattle.std.proofs.lemmas.Slice.{take-put_mid}
 use Rattle.std.specs.List.{flat_map}
 use borrow.Rule.Slice.PartMut.{put_mid}
+use Rattle.std.proofs.lemmas.Bool.Decides.{nat_tests}
 use Rattle.desk_run.specs.Texts.{hex_digit, hex_digits, row_text}
+use Rattle.desk_run.proofs.NumberLemmas.{IsLine, line_append}
 
 -- the last digit apart
 pub hex_digits_more : (n value : ℕ) → hex_digits (n + 1) value ≡ hex_digits n (value / 16) ++ (hex_digit (value % 16) ∷ [])
@@ -60,3 +62,13 @@ row_end line values digits i past within long so =
     let all : take (digits * length values) line ≡ flat_map (hex_digits digits) values = rw (e) at so
     ∙ ap (flat_map (hex_digits digits)) (take_all (length values) values (le_refl _)) in
     set_split line (digits * length values) 10 (omega arith) ∙ rw (all, drop_all (suc (digits * length values)) line (omega arith)) refl
+
+-- hexadecimal digits are a line
+digit_plain : (n : ℕ) → 10 < hex_digit n
+digit_plain n = grind (arith, nat_tests)
+
+pub hex_line : (digits value : ℕ) → IsLine (hex_digits digits value)
+unfolding hex_digits
+hex_line zero value = tt
+hex_line (suc digits) value =
+    line_append (hex_digits digits (value / 16)) (hex_digit (value % 16) ∷ []) (hex_line digits (value / 16)) (digit_plain (value % 16), tt)

@@ -6,5 +6,6 @@ pub mod InputLaws
 pub mod LineLemmas
 pub mod LiveLemmas
 pub mod NumberLemmas
+pub mod ReadLemmas
 pub mod RowLemmas
 pub mod TextLemmas

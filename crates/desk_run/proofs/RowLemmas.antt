@@ -1,13 +1,11 @@
--- Rows of values that are written or summed one after the other.
-use Rattle.std.proofs.Common.{◌≡◌, ℕ, zero, suc, ◌+◌, ◌-◌, ◌*◌, ◌<◌, ◌≤◌, List, ◌++◌, take, drop, length, arith, refl, sym, ap, ◌∙◌}
+-- Rows of values that are written one after the other.
+use Rattle.std.proofs.Common.{◌≡◌, ℕ, zero, suc, ◌+◌, ◌-◌, ◌*◌, ◌<◌, ◌≤◌, List, ◌++◌, take, drop, arith, refl, sym, ap, ◌∙◌}
 use Rattle.std.proofs.Common.{Option, true, false, append_assoc, append-nil}
-use Rattle.std.proofs.lemmas.List.{drop-drop, take_all}
-use Rattle.std.proofs.lemmas.List.Sums.{fold-append}
+use Rattle.std.proofs.lemmas.List.{drop-drop}
 use Rattle.std.proofs.Math.Nat.{mul-le-mul_right, mul_comm}
-use Rattle.std.proofs.Math.Seq.{take-add}
 use Rattle.desk_io.specs.SinkLaws.{puts_as, puts_on, puts_stopped}
 use Rattle.desk_io.specs.Sinks.{Puts}
-use Rattle.desk_run.specs.Texts.{row_text, rows_text, sum_of, sum_on}
+use Rattle.desk_run.specs.Texts.{row_text, rows_text}
 
 -- some rows and then more
 rows_then : (digits w m n : ℕ) (vs : List ℕ) → rows_text digits w (m + n) vs ≡ rows_text digits w m vs ++ rows_text digits w n (drop (m * w) vs)
@@ -39,15 +37,9 @@ module _ (digits w h y : ℕ) (vs : List ℕ) {line row : List ℕ} {a b c : Opt
       (ap (λ (t : List ℕ). t ++ rows_text digits w (h - (y + 1)) (drop ((y + 1) * w) vs)) (sym (row_more digits w y vs))
       ∙ sym (rows_then digits w (y + 1) (h - (y + 1)) vs) ∙ ap (λ n. rows_text digits w n vs) all)
 
--- a sum with one row more
-pub sum_more : (w y : ℕ) (values : List ℕ) → sum_on (sum_of (take (y * w) values)) (take w (drop (y * w) values)) ≡ sum_of (take ((y + 1) * w) values)
-sum_more w y values =
-    sym (fold-append _ 0 (take (y * w) values) (take w (drop (y * w) values)))
-    ∙ ap sum_of (sym (take-add (y * w) w values) ∙ ap (λ n. take n values) (let on : y * w + w ≡ (y + 1) * w = grind arith in on))
-
--- all rows are all values
-pub all_rows : (w h y : ℕ) (values : List ℕ) → length values ≡ w * h → h ≤ y → take (y * w) values ≡ values
-all_rows w h y values long past =
-    let m : h * w ≤ y * w = mul-le-mul_right w past in
+-- a row of a surface lies within its values
+pub row_within : (w h y long : ℕ) → long ≡ w * h → y < h → y * w + w ≤ long
+row_within w h y long e hy =
+    let m : suc y * w ≤ h * w = mul-le-mul_right w (let k : suc y ≤ h = omega arith in k) in
     let c : w * h ≡ h * w = mul_comm w h in
-    take_all (y * w) values (omega arith)
+    omega arith

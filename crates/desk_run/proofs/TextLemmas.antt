@@ -4,12 +4,14 @@ use Rattle.std.proofs.Common.{arith, append_assoc, append-nil, Option, Some, Non
 use Rattle.std.proofs.lemmas.Int.{ints}
 use Rattle.std.proofs.lemmas.List.{append_cancel_left, length-map}
 use Rattle.std.proofs.lemmas.Option.{slice_get_within}
-use Rattle.std.specs.Prelude.{All}
+use Rattle.std.specs.Prelude.{All, MatchOption}
 use Rattle.std.specs.Fmt.{signed_decimal}
 use Rattle.std.specs.List.{flat_map}
-use Rattle.std.specs.Option.{option_map_or}
 use lib.Signed.{mag}
 use Rattle.geom_base.specs.declared.rect.Rect.{Rect}
+use Rattle.geom_base.specs.declared.size.Size.{Size as SurfaceSize}
+use Rattle.pix_format.specs.Value.{digits_of}
+use Rattle.pix_format.specs.declared.format.Format.{Format}
 use Rattle.script_orders.specs.declared.desk_command.DeskCommand.{DeskCommand}
 use Rattle.script_orders.specs.declared.desk_command.Spot.{Spot}
 use Rattle.script_orders.specs.declared.desk_command.Spot.TheVariants as spots
@@ -19,15 +21,17 @@ use Rattle.script_orders.specs.declared.script_command.ScriptCommand.{ScriptComm
 use Rattle.script_orders.specs.declared.script_command.ScriptCommand.TheVariants.{Create, Delete, Brush, Draw, Dump, Sum, Nothing}
 use Rattle.surf_obj.specs.Surface.{Surface}
 use Rattle.desk_span.specs.Desk.{State, carried, drawn_on, drawn_screens, surface_at}
-use Rattle.desk_span.specs.declared.reports.Cause.{Cause}
-use Rattle.desk_span.specs.declared.reports.Cause.TheVariants.{Fault, Memory}
+use Rattle.hook_route.specs.declared.outcome.Cause.{Cause}
+use Rattle.hook_route.specs.declared.outcome.Cause.TheVariants.{Fault, Memory}
 use Rattle.desk_span.specs.Meeting.{IsTarget}
 use Rattle.desk_span.specs.Telling.{IsReport}
 use Rattle.desk_span.specs.Reports.{Told}
 use Rattle.desk_run.specs.TextLaws.{HasNumber, IsEdge, HasEdges, IsReportOn}
-use Rattle.desk_run.specs.Run.{Entry, MayTell, MayTellAll, body, commands_of, out, text_of}
-use Rattle.desk_run.specs.Texts.{BitmapNames, cause_text, drawn_text, dump_text, end_text, name_text, report_text, sum_text}
-use Rattle.desk_run.proofs.NumberLemmas.{decimal_back, same_head, same_tail, signed_back}
+use Rattle.desk_run.specs.Run.{Entry, IsUnread, MayTell, MayTellAll, ReadTells, body, commands_of, out, read_text, text_of}
+use Rattle.desk_run.specs.Texts.{BitmapNames, cause_text, drawn_text, dump_text, end_text, format_text, head_text, hex_digits, name_text, report_text}
+use Rattle.desk_run.specs.Texts.{rows_text, sum_line_text, sum_of, sum_text, unread_text}
+use Rattle.desk_run.proofs.HexLemmas.{hex_line, length-hex_digits}
+use Rattle.desk_run.proofs.NumberLemmas.{IsLine, decimal_back, line_back, no_letter, same_head, same_tail, signed_back}
 
 -- the first of a list, and the others
 all_first : {X : Type 0} (P : X → Type 0) (x : X) (xs : List X) → All P (x ∷ xs) → P x
@@ -46,12 +50,12 @@ edge_back w z x y p q e =
     let (same, rest) = signed_back w z 32 32 x y (edge_size w p) (edge_size z q) (omega arith) (omega arith) e in
     (same, same_tail 32 32 x y rest)
 
--- the cause of a report
-cause_back : (c d : Cause) (x y : List ℕ) → cause_text c ++ 32 ∷ x ≡ cause_text d ++ 32 ∷ y → (c ≡ d) × (x ≡ y)
-cause_back Fault Fault x y e = (refl, same_tail 32 32 x y (append_cancel_left (codes "fault") (32 ∷ x) (32 ∷ y) e))
-cause_back Memory Memory x y e = (refl, same_tail 32 32 x y (append_cancel_left (codes "memory") (32 ∷ x) (32 ∷ y) e))
-cause_back Fault Memory x y e = absurd (let h = same_head 102 109 _ _ e in omega (arith, h))
-cause_back Memory Fault x y e = absurd (let h = same_head 109 102 _ _ e in omega (arith, h))
+-- a cause, and what stands behind it
+cause_back : (c d : Cause) (b : ℕ) (x y : List ℕ) → cause_text c ++ b ∷ x ≡ cause_text d ++ b ∷ y → (c ≡ d) × (x ≡ y)
+cause_back Fault Fault b x y e = (refl, same_tail b b x y (append_cancel_left (codes "fault") (b ∷ x) (b ∷ y) e))
+cause_back Memory Memory b x y e = (refl, same_tail b b x y (append_cancel_left (codes "memory") (b ∷ x) (b ∷ y) e))
+cause_back Fault Memory b x y e = absurd (let h = same_head 102 109 _ _ e in omega (arith, h))
+cause_back Memory Fault b x y e = absurd (let h = same_head 109 102 _ _ e in omega (arith, h))
 
 -- the target of a report
 target_back : (names : BitmapNames) (spot : Spot) (p q : Named) (x y : List ℕ) → IsTarget spot p → IsTarget spot q → HasNumber p → HasNumber q →
@@ -125,7 +129,7 @@ pub report_back : (names : BitmapNames) (n : ℕ) (spot : Spot) (t u : Told) (x 
     report_text names n t ++ x ≡ report_text names n u ++ y → (t ≡ u) × (x ≡ y)
 report_back names n spot t u x y a b e =
     let e1 = append_cancel_left (codes "command ") _ _ (sym (report_pieces names n t x) ∙ e ∙ report_pieces names n u y) in
-    let (cause, e2) = cause_back t.cause u.cause _ _ (same_tail 32 32 _ _ (append_cancel_left (decimal n) _ _ e1)) in
+    let (cause, e2) = cause_back t.cause u.cause 32 _ _ (same_tail 32 32 _ _ (append_cancel_left (decimal n) _ _ e1)) in
     let (target, e3) = target_back names spot t.target u.target _ _ a.target b.target a.number b.number e2 in
     let (count, e4) = decimal_back (length t.rects) (length u.rects) 10 10 _ _ a.count b.count (omega arith) (omega arith) e3 in
     let e5 = same_tail 10 10 _ _ e4 in
@@ -178,16 +182,67 @@ reports_past names m n (t ∷ told) x lt small past = λ y e.
     later_number m n _ y lt small
     (sym (report_pieces names m t (flat_map (report_text names m) told ++ x)) ∙ sym (append_assoc (report_text names m t) (flat_map (report_text names m) told) x) ∙ e)
 
--- what begins with another letter
-dump_past : (names : BitmapNames) (n : ℕ) (q : Named) (s : Option Surface) (x : List ℕ) → Past n x → Past n (option_map_or (dump_text names q) s [] ++ x)
-dump_past names n q None x past = past
-dump_past names n q (Some s) x past = λ y e.
-    let h : 100 ≡ 99 = same_head 100 99 _ _ e in omega (arith, h)
+-- the line of a surface that could not be read, and what stands behind it, piece by piece
+unread_pieces : (word : List ℕ) (names : BitmapNames) (q : Named) (c : Cause) (x : List ℕ) →
+    unread_text word names q c ++ x ≡ word ++ (name_text names q ++ 32 ∷ (cause_text c ++ 10 ∷ x))
+unread_pieces word names q c x = simp append_assoc refl
 
-sum_past : (names : BitmapNames) (n : ℕ) (q : Named) (s : Option Surface) (x : List ℕ) → Past n x → Past n (option_map_or (sum_text names q) s [] ++ x)
-sum_past names n q None x past = past
-sum_past names n q (Some s) x past = λ y e.
-    let h : 115 ≡ 99 = same_head 115 99 _ _ e in omega (arith, h)
+-- the text of a surface that was read is never that of one that was not
+abbrev IsNoCause : List ℕ → BitmapNames → Named → (Surface → List ℕ) → Type 0
+IsNoCause word names q text = (s : Surface) (c : Cause) (x y : List ℕ) → text s ++ x ≡ unread_text word names q c ++ y → ⊥
+
+-- a dump's head has a digit where the cause's word begins
+head_pieces : (names : BitmapNames) (q : Named) (size : SurfaceSize) (format : Format) (x : List ℕ) →
+    head_text names q size format ++ x ≡ codes "dump " ++ (name_text names q ++ 32 ∷ (decimal size.w ++ 32 ∷ (decimal size.h ++ 32 ∷ (format_text format ++ 10 ∷ x))))
+head_pieces names q size format x = simp append_assoc refl
+
+no_cause : (n : ℕ) (c : Cause) (x y : List ℕ) → decimal n ++ x ≡ cause_text c ++ y → ⊥
+no_cause n Fault x y e = no_letter 102 x _ (omega arith) n e
+no_cause n Memory x y e = no_letter 109 x _ (omega arith) n e
+
+abbrev dump_of : BitmapNames → Named → Surface → List ℕ
+dump_of names q t = dump_text names q t.size t.format t.values
+
+dump_no_cause : (names : BitmapNames) (q : Named) → IsNoCause (codes "dump ") names q (dump_of names q)
+dump_no_cause names q s c x y e =
+    let rows = rows_text (digits_of s.format) s.size.w s.size.h s.values in
+    let head = sym (head_pieces names q s.size s.format (rows ++ x)) ∙ sym (append_assoc (head_text names q s.size s.format) rows x) ∙ e
+    ∙ unread_pieces (codes "dump ") names q c y in
+    no_cause s.size.w c _ _ (same_tail 32 32 _ _ (append_cancel_left (name_text names q) _ _ (append_cancel_left (codes "dump ") _ _ head)))
+
+-- a sum has more digits than a cause has letters
+sum_pieces : (names : BitmapNames) (q : Named) (sum : ℕ) (x : List ℕ) →
+    sum_line_text names q sum ++ x ≡ codes "sum " ++ (name_text names q ++ 32 ∷ (hex_digits 16 sum ++ 10 ∷ x))
+sum_pieces names q sum x = simp append_assoc refl
+
+cause_line : (c : Cause) → IsLine (cause_text c)
+cause_line Fault = (omega arith, (omega arith, (omega arith, (omega arith, (omega arith, tt)))))
+cause_line Memory = (omega arith, (omega arith, (omega arith, (omega arith, (omega arith, (omega arith, tt))))))
+
+cause_short : (c : Cause) → length (cause_text c) < 16
+cause_short Fault = omega arith
+cause_short Memory = omega arith
+
+abbrev sum_of_surface : BitmapNames → Named → Surface → List ℕ
+sum_of_surface names q t = sum_text names q t.values
+
+sum_no_cause : (names : BitmapNames) (q : Named) → IsNoCause (codes "sum ") names q (sum_of_surface names q)
+sum_no_cause names q s c x y e =
+    let sum = sum_of s.values in
+    let line = sym (sum_pieces names q sum x) ∙ e ∙ unread_pieces (codes "sum ") names q c y in
+    let (same, rest) = line_back (hex_digits 16 sum) (cause_text c) x y (hex_line 16 sum) (cause_line c)
+    (same_tail 32 32 _ _ (append_cancel_left (name_text names q) _ _ (append_cancel_left (codes "sum ") _ _ line))) in
+    omega (arith, ap length same, length-hex_digits 16 sum, cause_short c)
+
+-- what begins with another letter
+read_past : (names : BitmapNames) (n a : ℕ) (word : List ℕ) (q : Named) (told : List Told) (text : Surface → List ℕ) (from : Option Surface) (x : List ℕ) →
+    99 < a → ((s : Surface) → (r : List ℕ) × (text s ≡ a ∷ r)) → Past n x → Past n (read_text (a ∷ word) names q told text from ++ x)
+read_past names n a word q [] text None x later begins past = past
+read_past names n a word q [] text (Some s) x later begins past = λ y e.
+    let (r, is) = begins s in
+    let h : a ≡ 99 = same_head a 99 (r ++ x) _ (rw is at e) in omega (arith, h, later)
+read_past names n a word q (t ∷ told) text from x later begins past = λ y e.
+    let h : a ≡ 99 = same_head a 99 _ _ e in omega (arith, h, later)
 
 end_past : (n k : ℕ) → Past n (end_text k)
 end_past n k y e = let h : 101 ≡ 99 = same_head 101 99 _ _ e in omega (arith, h)
@@ -195,8 +250,10 @@ end_past n k y e = let h : 101 ≡ 99 = same_head 101 99 _ _ e in omega (arith, 
 command_past : (names : BitmapNames) (m n : ℕ) (c : ScriptCommand) (told : List Told) (s : State) (x : List ℕ) → n < m → m < 2 ^ 64 → Past n x →
     Past n (text_of names m c told s ++ x)
 command_past names m n (Draw c) told s x lt small past = reports_past names m n told x lt small past
-command_past names m n (Dump q) told s x lt small past = dump_past names n q (surface_at s q) x past
-command_past names m n (Sum q) told s x lt small past = sum_past names n q (surface_at s q) x past
+command_past names m n (Dump q) told s x lt small past =
+    read_past names n 100 (codes "ump ") q told (dump_of names q) (surface_at s q) x (omega arith) (λ t. (_, refl)) past
+command_past names m n (Sum q) told s x lt small past =
+    read_past names n 115 (codes "um ") q told (sum_of_surface names q) (surface_at s q) x (omega arith) (λ t. (_, refl)) past
 command_past names m n (Create o) told s x lt small past = past
 command_past names m n (Delete b) told s x lt small past = past
 command_past names m n (Brush o) told s x lt small past = past
@@ -245,13 +302,34 @@ carried_length s (Delete n) told = refl
 carried_length s (Brush o) told = refl
 carried_length s Nothing told = refl
 
+-- a read's report and what stands behind its lines
+same_unread : (s : State) (q : Named) (t u : Told) → IsUnread s q t → IsUnread s q u → t.cause ≡ u.cause → t ≡ u
+same_unread s q t u a b cause = same_report t u (a.target ∙ sym b.target) cause (a.wanting.1 ∙ sym b.wanting.1)
+
+read_back : (word : List ℕ) (names : BitmapNames) (s : State) (q : Named) (told other : List Told) (text : Surface → List ℕ) (from : Option Surface) (x y : List ℕ) →
+    surface_at s q ≡ from → IsNoCause word names q text → ReadTells s q told → ReadTells s q other →
+    read_text word names q told text from ++ x ≡ read_text word names q other text from ++ y → (told ≡ other) × (x ≡ y)
+read_back word names s q [] [] text from x y is none a b e = (refl, append_cancel_left _ x y e)
+read_back word names s q [] (u ∷ other) text None x y is none a b e =
+    absurd (subst (λ (o : Option Surface). MatchOption o ⊥ (λ surface. Unit {0})) is b.0.there)
+read_back word names s q [] (u ∷ other) text (Some t) x y is none a b e = absurd (none t u.cause x y e)
+read_back word names s q (t ∷ told) [] text None x y is none a b e =
+    absurd (subst (λ (o : Option Surface). MatchOption o ⊥ (λ surface. Unit {0})) is a.0.there)
+read_back word names s q (t ∷ told) [] text (Some u) x y is none a b e = absurd (none u t.cause y x (sym e))
+read_back word names s q (t ∷ told) (u ∷ other) text from x y is none a b e =
+    let named = append_cancel_left word _ _ (sym (unread_pieces word names q t.cause x) ∙ e ∙ unread_pieces word names q u.cause y) in
+    let (cause, rest) = cause_back t.cause u.cause 10 x y (same_tail 32 32 _ _ (append_cancel_left (name_text names q) _ _ named)) in
+    (rw (same_unread s q t u a.0 b.0 cause, a.1, b.1) refl, rest)
+
 -- one command's reports and what stands behind its lines
 command_back : (names : BitmapNames) (n : ℕ) (c : ScriptCommand) (told other : List Told) (s : State) (x y : List ℕ) → length s.screens < 2 ^ 64 →
     MayTell s c told → MayTell s c other → Past n x → Past n y → text_of names n c told s ++ x ≡ text_of names n c other s ++ y → (told ≡ other) × (x ≡ y)
 command_back names n (Draw c) told other s x y small a b p q e =
     reports_back names n c.target told other x y (reports_are s c told small a.each) (reports_are s c other small b.each) p q e
-command_back names n (Dump d) told other s x y small a b p q e = (a ∙ sym b, append_cancel_left _ x y e)
-command_back names n (Sum d) told other s x y small a b p q e = (a ∙ sym b, append_cancel_left _ x y e)
+command_back names n (Dump d) told other s x y small a b p q e =
+    read_back (codes "dump ") names s d told other (dump_of names d) (surface_at s d) x y refl (dump_no_cause names d) a b e
+command_back names n (Sum d) told other s x y small a b p q e =
+    read_back (codes "sum ") names s d told other (sum_of_surface names d) (surface_at s d) x y refl (sum_no_cause names d) a b e
 command_back names n (Create o) told other s x y small a b p q e = (a ∙ sym b, e)
 command_back names n (Delete d) told other s x y small a b p q e = (a ∙ sym b, e)
 command_back names n (Brush o) told other s x y small a b p q e = (a ∙ sym b, e)

@@ -1,16 +1,19 @@
 -- A run: commands one after the other, and what is written of them.
-use Rattle.std.specs.Prelude.{◌≡◌, ℕ, ◌+◌, Bool, true, false, List, [], ◌∷◌, ◌++◌, length, map, take, drop, Option, ◌⊎◌, ◌==◌}
+use Rattle.std.specs.Prelude.{◌≡◌, ℕ, ◌+◌, Bool, true, false, List, [], ◌∷◌, ◌++◌, length, map, take, drop, codes, Option, ◌⊎◌, ◌==◌}
 use Rattle.std.specs.List.{flat_map, list_all}
 use Rattle.std.specs.Option.{option_map_or}
 use Rattle.desk_io.specs.Sinks.{Puts}
+use Rattle.surf_obj.specs.Surface.{Surface}
+use Rattle.script_orders.specs.declared.named.Named.{Named}
 use Rattle.script_orders.specs.declared.script_command.ScriptCommand.{ScriptCommand}
 use Rattle.script_orders.specs.declared.script_command.ScriptCommand.TheVariants.{Create, Delete, Brush, Draw, Dump, Sum, Nothing}
 use Rattle.desk_run.specs.declared.run.Ended.{Ended}
 use Rattle.desk_run.specs.declared.run.Ended.TheVariants.{Done, MemorySeen, NoMemory, WriteFault}
 use Rattle.desk_span.specs.Reports.{Told}
-use Rattle.desk_span.specs.Telling.{AreReports}
+use Rattle.desk_span.specs.Reading.{SurfaceIs}
+use Rattle.desk_span.specs.Telling.{AreReports, IsWanting}
 use Rattle.desk_span.specs.Desk.{State, surface_at, carried}
-use Rattle.desk_run.specs.Texts.{BitmapNames, report_text, dump_text, sum_text, end_text}
+use Rattle.desk_run.specs.Texts.{BitmapNames, report_text, dump_text, sum_text, unread_text, end_text}
 
 -- a command that was carried out, with its reports
 pub record Entry : Type 0 where
@@ -25,9 +28,22 @@ abbrev pub run : List Entry → State → State
 run [] s = s
 run (e ∷ es) s = run es (carried e.command e.told s)
 
--- the reports that a command may have: those of a drawing; no other has any
+-- a report that a surface, which is there, could not be read: it has no rectangles, and memory was wanting
+pub record IsUnread (s : State) (q : Named) (t : Told) : Type 0 where
+  pub there : SurfaceIs s q (λ surface. Unit {0})
+  pub target : t.target ≡ q
+  pub wanting : IsWanting t
+
+-- the reports that a read may have: none, or the one that it could not be done
+abbrev pub ReadTells : State → Named → List Told → Type 0
+ReadTells s q [] = Unit {0}
+ReadTells s q (t ∷ told) = IsUnread s q t × (told ≡ [])
+
+-- the reports that a command may have: those of a drawing, or that of a read; no other has any
 abbrev pub MayTell : State → ScriptCommand → List Told → Type 0
 MayTell s (Draw c) told = AreReports s c told
+MayTell s (Dump q) told = ReadTells s q told
+MayTell s (Sum q) told = ReadTells s q told
 MayTell s command told = told ≡ []
 
 -- each command has reports that it may have, in the state before it
@@ -40,11 +56,16 @@ pub record History (s t : State) (h : List Entry) : Type 0 where
   pub tells : MayTellAll s h
   pub shows : t ≡ run h s
 
+-- the text of a read: that of the surface; or, where it could not be read, the one line with the cause
+abbrev pub read_text : List ℕ → BitmapNames → Named → List Told → (Surface → List ℕ) → Option Surface → List ℕ
+read_text word names q [] text from = option_map_or text from []
+read_text word names q (t ∷ told) text from = unread_text word names q t.cause
+
 -- the lines of command n with its reports, in the state before it
 abbrev pub text_of : BitmapNames → ℕ → ScriptCommand → List Told → State → List ℕ
 text_of names n (Draw c) told s = flat_map (report_text names n) told
-text_of names n (Dump q) told s = option_map_or (dump_text names q) (surface_at s q) []
-text_of names n (Sum q) told s = option_map_or (sum_text names q) (surface_at s q) []
+text_of names n (Dump q) told s = read_text (codes "dump ") names q told (λ (t : Surface). dump_text names q t.size t.format t.values) (surface_at s q)
+text_of names n (Sum q) told s = read_text (codes "sum ") names q told (λ (t : Surface). sum_text names q t.values) (surface_at s q)
 text_of names n (Create o) told s = []
 text_of names n (Delete b) told s = []
 text_of names n (Brush o) told s = []

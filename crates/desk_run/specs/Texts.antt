@@ -8,15 +8,14 @@ use Rattle.geom_base.specs.declared.size.Size.{Size as SurfaceSize}
 use Rattle.pix_format.specs.declared.format.Format.{Format}
 use Rattle.pix_format.specs.declared.format.Format.TheVariants.{B1, B4, B8, B555, B565, B24, B32}
 use Rattle.pix_format.specs.Value.{digits_of}
-use Rattle.surf_obj.specs.Surface.{Surface}
 use Rattle.script_orders.specs.declared.named.Named.{Named}
 use Rattle.script_orders.specs.declared.named.Named.TheVariants.{Screen, Bitmap}
 use Rattle.desk_run.specs.declared.status.InputRefusal.{InputRefusal}
 use Rattle.desk_run.specs.declared.status.InputRefusal.TheVariants.{Size, Config, Script}
 use Rattle.desk_run.specs.declared.status.Status.{Status}
 use Rattle.desk_run.specs.declared.status.Status.TheVariants.{Usage, InputRefused}
-use Rattle.desk_span.specs.declared.reports.Cause.{Cause}
-use Rattle.desk_span.specs.declared.reports.Cause.TheVariants.{Fault, Memory}
+use Rattle.hook_route.specs.declared.outcome.Cause.{Cause}
+use Rattle.hook_route.specs.declared.outcome.Cause.TheVariants.{Fault, Memory}
 use Rattle.desk_span.specs.Reports.{Told}
 
 abbrev pub hex_digit : ℕ → ℕ
@@ -60,8 +59,8 @@ head_text names q size format =
     codes "dump " ++ name_text names q ++ codes " " ++ decimal size.w ++ codes " " ++ decimal size.h ++ codes " " ++ format_text format ++ codes "\n"
 
 -- the lines of a dump: its head, and a line for each row
-abbrev pub dump_text : BitmapNames → Named → Surface → List ℕ
-dump_text names q s = head_text names q s.size s.format ++ rows_text (digits_of s.format) s.size.w s.size.h s.values
+abbrev pub dump_text : BitmapNames → Named → SurfaceSize → Format → List ℕ → List ℕ
+dump_text names q size format values = head_text names q size format ++ rows_text (digits_of format) size.w size.h values
 
 -- a sum with more values: for each value 31 times the sum so far and the value, within 64 bits
 abbrev pub sum_on : ℕ → List ℕ → ℕ
@@ -75,12 +74,16 @@ sum_of values = sum_on 0 values
 abbrev pub sum_line_text : BitmapNames → Named → ℕ → List ℕ
 sum_line_text names q sum = codes "sum " ++ name_text names q ++ codes " " ++ hex_digits 16 sum ++ codes "\n"
 
-abbrev pub sum_text : BitmapNames → Named → Surface → List ℕ
-sum_text names q s = sum_line_text names q (sum_of s.values)
+abbrev pub sum_text : BitmapNames → Named → List ℕ → List ℕ
+sum_text names q values = sum_line_text names q (sum_of values)
 
 abbrev pub cause_text : Cause → List ℕ
 cause_text Fault = codes "fault"
 cause_text Memory = codes "memory"
+
+-- the one line of a surface that could not be read, for a command with this word
+abbrev pub unread_text : List ℕ → BitmapNames → Named → Cause → List ℕ
+unread_text word names q cause = word ++ name_text names q ++ codes " " ++ cause_text cause ++ codes "\n"
 
 abbrev pub drawn_text : BitmapNames → Named → Rect → List ℕ
 drawn_text names q r =

@@ -13,7 +13,7 @@ ghost use Rattle.desk_run.specs.Status.{is_read_fault, is_write_fault};
 ghost use Rattle.desk_run.specs.declared.status.Status.TheVariants as status;
 
 use crate::input::{Input, InputError, read_input};
-use crate::room::RowRoom;
+use crate::room::ReadRoom;
 use crate::run::{Ended, Run, run_all};
 use crate::status::{InputRefusal, Status};
 use crate::text::plain_line;
@@ -53,7 +53,7 @@ fn run_of<'a>(alloc: Global, input: &'a Input<'a>) -> Result<Run<'a>, AllocError
         script: &input.script,
         desk: Desk::new(alloc, input.config.size)?,
         reports: Reports::new(alloc)?,
-        room: RowRoom::new(alloc)?,
+        room: ReadRoom::new(alloc)?,
     })
 }
 

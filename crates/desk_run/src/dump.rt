@@ -2,12 +2,14 @@
 
 ghost use Rattle.std.specs.Prelude.{◌≡◌, ◌<◌, ◌+◌, ◌*◌, length, is_err};
 ghost use Rattle.desk_io.specs.Sinks.{Puts};
-ghost use Rattle.desk_run.specs.InnerRows.{longest_line, widest_row};
+ghost use Rattle.script_orders.specs.Asked.{IsSurfaceSize};
+ghost use Rattle.desk_run.specs.InnerRows.{longest_line};
 ghost use Rattle.desk_run.specs.Texts.{hex_digit, hex_digits, row_text, rows_text, dump_text};
 
 use crate::text::head_line;
 use desk_io::{Sink, WriteFault, write_all};
-use desk_span::Canvas;
+use desk_span::SurfaceLook;
+use geom_base::Size;
 use script_orders::{Named, Script};
 
 /// The hexadecimal digit of a number below 16.
@@ -46,47 +48,45 @@ fn put_row(line: &mut [u8], values: &[u32], digits: usize)
     line[digits * values.len()] = b'\n';
 }
 
-/// Writes the lines of the rows, each in one piece. A row is read into `values` and written from `line`.
+/// Writes the lines of the rows, each in one piece. A row is written from `line`.
 fn put_rows<K: Sink>(
     sink: &mut K,
-    canvas: &Canvas,
+    size: Size,
+    values: &[u32],
     digits: usize,
-    values: &mut [u32],
     line: &mut [u8],
 ) -> Result<(), WriteFault>
-    requires places { length values.old ≡ canvas.now.size.w }
-    requires room { length line.old ≡ digits * canvas.now.size.w + 1 }
-    ensures { let text = rows_text digits canvas.now.size.w canvas.now.size.h canvas.now.values in
+    requires places { length values.now ≡ size.w * size.h }
+    requires room { length line.old ≡ digits * size.w + 1 }
+    ensures { let text = rows_text digits size.w size.h values.now in
         Puts text (K.written sink.old) (K.written sink.new) (K.faults sink.old) (K.faults sink.new) (is_err result) }
 {
-    for y in 0..canvas.size().h {
-        canvas.read_row(y, values);
-        put_row(line, values, digits);
+    let width = size.w as usize;
+    for y in 0..size.h as usize {
+        put_row(line, &values[y * width..y * width + width], digits);
         write_all(sink, line)?;
     }
     Ok(())
 }
 
-/// Writes the lines of a dump: its head, and a line for each row. `values` and `line` are room for a row.
+/// Writes the lines of a dump of a surface with these values: its head, and a line for each row. `line` is room for a row's line.
 pub fn put_dump<K: Sink>(
     sink: &mut K,
     script: &Script<'_>,
     name: Named,
-    canvas: &Canvas,
-    values: &mut [u32],
+    look: SurfaceLook,
+    values: &[u32],
     line: &mut [u8],
 ) -> Result<(), WriteFault>
-    requires values { length values.old ≡ widest_row }
+    requires size { IsSurfaceSize look.size }
+    requires places { length values.now ≡ look.size.w * look.size.h }
     requires line { length line.old ≡ longest_line }
-    ensures { let text = dump_text script.now.names name canvas.now in
+    ensures { let text = dump_text script.now.names name look.size look.format values.now in
         Puts text (K.written sink.old) (K.written sink.new) (K.faults sink.old) (K.faults sink.new) (is_err result) }
 {
-    let size = canvas.size();
-    let format = canvas.format();
-    let head = head_line(script, name, size, format);
+    let head = head_line(script, name, look.size, look.format);
     write_all(sink, head.as_slice())?;
-    let width = size.w as usize;
-    let digits = format.digits() as usize;
-    let row = &mut values[..width];
-    put_rows(sink, canvas, digits, row, &mut line[..digits * width + 1])
+    let digits = look.format.digits() as usize;
+    let room = digits * look.size.w as usize + 1;
+    put_rows(sink, look.size, values, digits, &mut line[..room])
 }

@@ -1,22 +1,21 @@
 //! Commands in order, with what is written of them.
 
-ghost use Rattle.std.specs.Prelude.{◌≡◌, ◌≤◌, List, [], length, is_err};
-ghost use Rattle.std.specs.Option.{option_map_or};
-ghost use Rattle.desk_io.specs.Sinks.{Puts};
+ghost use Rattle.std.specs.Prelude.{◌≡◌, ◌≤◌, ℕ, List, length};
 ghost use Rattle.script_orders.specs.Live.{CanDo, CanDraw, CanRun, NamedIsThere};
 ghost use Rattle.script_orders.specs.declared.script_command.ScriptCommand.TheVariants as asked;
-ghost use Rattle.desk_span.specs.Desk.{surface_at, live_of};
-ghost use Rattle.desk_run.specs.Texts.{dump_text, sum_text};
+ghost use Rattle.desk_span.specs.Desk.{live_of};
 ghost use Rattle.desk_run.specs.Run.{Entry, Ran};
-ghost use Rattle.desk_run.specs.InnerRun.{CameOut, MadeAs, WrittenAs};
+ghost use Rattle.desk_run.specs.InnerRun.{CameOut, MadeAs, ReportedAs, WrittenAs, cause_of};
 
 use crate::dump::put_dump;
-use crate::report::put_reports;
-use crate::room::RowRoom;
+use crate::report::{put_reports, put_unread};
+use crate::room::ReadRoom;
 use crate::sum::put_sum;
 use crate::text::end_line;
 use desk_io::{Sink, WriteFault, write_all};
 use desk_span::{Desk, DeskOutcome, Reports};
+use geom_base::PortAnswer;
+use hook_route::Cause;
 use script_orders::{DeskCommand, Named, Script, ScriptCommand};
 use std::alloc::{AllocError, Global};
 
@@ -36,7 +35,7 @@ pub enum Ended {
 pub enum Outcome {
     /// It is done, and its lines are written.
     Whole,
-    /// It is a drawing with reports, and these are written.
+    /// There are reports of it, and these are written.
     Parted,
     /// There was no memory for what it makes.
     Lacking,
@@ -52,7 +51,7 @@ pub struct Run<'a> {
     pub desk: Desk,
     /// Those of the last drawing.
     pub reports: Reports,
-    pub room: RowRoom,
+    pub room: ReadRoom,
 }
 
 /// What making something gave.
@@ -62,6 +61,16 @@ fn outcome_of_making(made: Result<(), AllocError>) -> Outcome
     match made {
         Ok(()) => Outcome::Whole,
         Err(_) => Outcome::Lacking,
+    }
+}
+
+/// What writing reports gave.
+fn outcome_of_reporting(written: Result<(), WriteFault>) -> Outcome
+    ensures { ReportedAs written result }
+{
+    match written {
+        Ok(()) => Outcome::Parted,
+        Err(_) => Outcome::Broken,
     }
 }
 
@@ -75,38 +84,56 @@ fn outcome_of_writing(written: Result<(), WriteFault>) -> Outcome
     }
 }
 
-/// Writes the lines of a dump of a surface.
+/// Why a surface was not read.
+fn cause_of(answer: PortAnswer) -> Option<Cause>
+    ensures { result ≡ cause_of answer }
+{
+    match answer {
+        PortAnswer::Done => None,
+        PortAnswer::Fault => Some(Cause::Fault),
+        PortAnswer::NoMemory => Some(Cause::Memory),
+    }
+}
+
+/// Reads a surface whole, and writes its dump; or the one line with the cause, where it could not be read.
 fn dump<K: Sink>(
     sink: &mut K,
     script: &Script<'_>,
     desk: &Desk,
     name: Named,
-    room: &mut RowRoom,
-) -> Result<(), WriteFault>
+    room: &mut ReadRoom,
+) -> Outcome
     requires { NamedIsThere (live_of desk.now) name }
-    ensures { let text = option_map_or (dump_text script.now.names name) (surface_at desk.now name) [] in
-        Puts text (K.written sink.old) (K.written sink.new) (K.faults sink.old) (K.faults sink.new) (is_err result) }
+    ensures { (number : ℕ) → CameOut script.now.names number (asked.Dump name) desk.now desk.now
+        (K.written sink.old) (K.written sink.new) (K.faults sink.old) (K.faults sink.new) result }
 {
-    let canvas = desk.surface(name);
-    let values = room.values.as_mut_slice();
-    let line = room.line.as_mut_slice();
-    put_dump(sink, script, name, canvas, values, line)
+    match cause_of(desk.read(name, &mut room.values)) {
+        None => {
+            let look = desk.look(name);
+            let values = room.values.as_slice();
+            let line = room.line.as_mut_slice();
+            outcome_of_writing(put_dump(sink, script, name, look, values, line))
+        }
+        Some(cause) => outcome_of_reporting(put_unread(sink, script, b"dump ", name, cause)),
+    }
 }
 
-/// Writes the line of a sum of a surface.
+/// Reads a surface whole, and writes its sum; or the one line with the cause, where it could not be read.
 fn sum<K: Sink>(
     sink: &mut K,
     script: &Script<'_>,
     desk: &Desk,
     name: Named,
-    room: &mut RowRoom,
-) -> Result<(), WriteFault>
+    room: &mut ReadRoom,
+) -> Outcome
     requires { NamedIsThere (live_of desk.now) name }
-    ensures { let text = option_map_or (sum_text script.now.names name) (surface_at desk.now name) [] in
-        Puts text (K.written sink.old) (K.written sink.new) (K.faults sink.old) (K.faults sink.new) (is_err result) }
+    ensures { (number : ℕ) → CameOut script.now.names number (asked.Sum name) desk.now desk.now
+        (K.written sink.old) (K.written sink.new) (K.faults sink.old) (K.faults sink.new) result }
 {
-    let canvas = desk.surface(name);
-    put_sum(sink, script, name, canvas, room.values.as_mut_slice())
+    match cause_of(desk.read(name, &mut room.values)) {
+        None => outcome_of_writing(put_sum(sink, script, name, room.values.as_slice())),
+        Some(cause) => outcome_of_reporting(put_unread(sink, script, b"sum ", name, cause)),
+    }
 }
 
 /// Carries out a drawing, and writes its reports.
@@ -120,10 +147,8 @@ fn draw<K: Sink>(run: &mut Run<'_>, number: u64, command: &DeskCommand, sink: &m
     match run.desk.draw(run.alloc, command, &mut run.reports) {
         DeskOutcome::All => Outcome::Whole,
         DeskOutcome::Parted => {
-            match put_reports(sink, run.script, number, run.reports.items()) {
-                Ok(()) => Outcome::Parted,
-                Err(_) => Outcome::Broken,
-            }
+            let reports = run.reports.items();
+            outcome_of_reporting(put_reports(sink, run.script, number, reports))
         }
     }
 }
@@ -149,12 +174,8 @@ fn carry_out<K: Sink>(
         }
         ScriptCommand::Brush(order) => outcome_of_making(run.desk.make_brush(run.alloc, order)),
         ScriptCommand::Draw(command) => draw(run, number, command, sink),
-        ScriptCommand::Dump(name) => {
-            outcome_of_writing(dump(sink, run.script, &run.desk, *name, &mut run.room))
-        }
-        ScriptCommand::Sum(name) => {
-            outcome_of_writing(sum(sink, run.script, &run.desk, *name, &mut run.room))
-        }
+        ScriptCommand::Dump(name) => dump(sink, run.script, &run.desk, *name, &mut run.room),
+        ScriptCommand::Sum(name) => sum(sink, run.script, &run.desk, *name, &mut run.room),
         ScriptCommand::Nothing => Outcome::Whole,
     }
 }

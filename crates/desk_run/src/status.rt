@@ -29,7 +29,7 @@ pub enum Status {
     ReadFault,
     /// The sink failed.
     WriteFault,
-    /// All was carried out and written, and memory was wanting for some drawing.
+    /// All was carried out and written, and memory was wanting for some drawing, dump or sum.
     MemorySeen,
 }
 

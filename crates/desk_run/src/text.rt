@@ -8,8 +8,9 @@ ghost use Rattle.desk_run.specs.Texts as spec;
 use crate::dump::put_hex;
 use crate::status::{InputRefusal, Status};
 use arrayvec::ArrayVec;
-use desk_span::{Cause, Report};
+use desk_span::Report;
 use geom_base::{Rect, Size};
+use hook_route::Cause;
 use itoa::Buffer;
 use pix_format::Format;
 use script_orders::{Named, Script};
@@ -121,6 +122,20 @@ pub fn sum_line(script: &Script<'_>, name: Named, sum: u64) -> Line
     add_name(&mut line, script, name);
     add(&mut line, b" ");
     add(&mut line, &digits);
+    add(&mut line, b"\n");
+    line
+}
+
+/// The line of a surface that could not be read, for a command with this word.
+pub fn unread_line(script: &Script<'_>, word: &[u8], name: Named, cause: Cause) -> Line
+    requires { length word.now ≤ 10 }
+    ensures { result.items ≡ spec.unread_text word.now script.now.names name cause }
+{
+    let mut line = Line::new();
+    add(&mut line, word);
+    add_name(&mut line, script, name);
+    add(&mut line, b" ");
+    add_cause(&mut line, cause);
     add(&mut line, b"\n");
     line
 }

@@ -1,10 +1,9 @@
 -- What was drawn on bits is drawn on the surface that they hold.
-use Rattle.std.proofs.Common.{◌≡◌, ℕ, ◌*◌, ◌+◌, ◌/◌, ◌%◌, ◌++◌, ◌∷◌, [], ◌<◌, List, get_or, take, length, Option, Some, None, Bor, refl, sym, ap, ◌∙◌}
+use Rattle.std.proofs.Common.{◌≡◌, ℕ, List, length, Option, Some, None, Bor, refl, sym, ap, ◌∙◌}
 use Rattle.std.specs.Option.{option_copied}
 use Rattle.std.specs.Prelude.{option_map, unwrap_or}
 use Rattle.std.specs.Vec.{with_items}
-use Rattle.std.proofs.lemmas.List.{take_more, with_items_is}
-use Rattle.std.proofs.lemmas.Nat.{div-add-mod'}
+use Rattle.std.proofs.lemmas.List.{with_items_is}
 use Rattle.geom_base.specs.declared.point.Point.{Point}
 use Rattle.geom_base.specs.declared.target.Target.{Target}
 use Rattle.pix_format.specs.Value.{colours_of}
@@ -110,11 +109,3 @@ module _ (t : Surface) (i : CanvasInputs) (lent : Inputs) (table : lent.table.no
   drawn_alike (Copy c) e =
       rw (same_xlate lent.xlate (source_of lent.source c.held (shown t.size t.values)) e, source_lent lent.source (option_copied i.source) c.held t source) refl
   drawn_alike (Paint c) e = rw (table, brush) refl
-
--- the value at a place in rows of a width
-pub next_value : (w : ℕ) (values taken : List ℕ) (i v : ℕ) → i < length values → taken ≡ take i values → v ≡ get_or values (i / w * w + i % w) 0 →
-    taken ++ v ∷ [] ≡ take (i + 1) values
-next_value w values taken i v lt so is =
-    ap (λ (xs : List ℕ). xs ++ v ∷ []) so
-    ∙ ap (λ (n : ℕ). take i values ++ n ∷ []) (is ∙ ap (λ k. get_or values k 0) (div-add-mod' i w))
-    ∙ sym (take_more values i 0 lt)

@@ -20,7 +20,8 @@ use Rattle.script_orders.specs.declared.desk_command.Spot.{Spot}
 use Rattle.script_orders.specs.declared.desk_command.Spot.TheVariants as spots
 use Rattle.script_orders.specs.declared.named.Named.TheVariants.{Screen, Bitmap}
 use Rattle.desk_span.specs.declared.others.Others.{Others}
-use Rattle.desk_span.specs.Desk.{MayStandAt, State, area_of, asked_point, bitmap_at, drawn, drawn_on, drawn_screens, new_of, standing_at}
+use Rattle.script_orders.specs.Places.{MayStandAt}
+use Rattle.desk_span.specs.Desk.{State, area_of, asked_point, bitmap_at, drawn, drawn_on, drawn_screens, new_of, standing_at}
 use Rattle.desk_span.specs.InnerBeside.{CanBeSeen, IsAlone, IsBeside, faces_of, stand_of, target_of, wanting}
 use Rattle.desk_span.specs.Meeting.{Reaches}
 use Rattle.desk_span.specs.Reports.{report_on}

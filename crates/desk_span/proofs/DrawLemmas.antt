@@ -38,7 +38,7 @@ use Rattle.desk_span.specs.declared.inputs.CanvasInputs.{CanvasInputs}
 use Rattle.desk_span.specs.InnerFrames.{LetsThrough}
 use Rattle.desk_span.proofs.FrameLemmas.{IsFrameOf, frame_back, is_in_seen, on_surface, there_and_back}
 
-allows-in_clip : (clip : Option (Bor (List Rect))) (p : Point) → allows clip p ≡ in_clip (option_copied clip) p
+pub allows-in_clip : (clip : Option (Bor (List Rect))) (p : Point) → allows clip p ≡ in_clip (option_copied clip) p
 allows-in_clip (Some rects) p = refl
 allows-in_clip None p = refl
 
@@ -86,7 +86,7 @@ pub row_drawn : (s : State) (c : DeskCommand) (t after : Surface) (call : DrawCa
 row_drawn s c t after call copy values area row is e = rw (is, row) e
 
 -- a call that is seen from where a surface stands gives its points what the drawing gives those that they are
-seen_call : CallsMove → (s : State) (c : DeskCommand) (t : Surface) (at : Point) (call : DrawCall) → call ≡ moved_call c.call (to_origin at) →
+pub seen_call : CallsMove → (s : State) (c : DeskCommand) (t : Surface) (at : Point) (call : DrawCall) → call ≡ moved_call c.call (to_origin at) →
     ◌≡◌ {A = Change} (new_of_call call (operands_of s c t)) (λ p. new_of s c t (moved p at))
 seen_call moves s c t at call e =
     ap (λ (x : DrawCall). new_of_call x (operands_of s c t)) e
@@ -116,7 +116,7 @@ kept_there : (b : Bool) (v : ℕ) (f : ℕ → ℕ) → option_map f (if b then 
 kept_there true v f = refl
 kept_there false v f = refl
 
-source_of_one : (s : State) (t : Surface) (at : Point) (screen : Surface) (back : Rgb) → IsAlone s at screen → (feed : Feed) (p : Point) →
+pub source_of_one : (s : State) (t : Surface) (at : Point) (screen : Surface) (back : Rgb) → IsAlone s at screen → (feed : Feed) (p : Point) →
     kept_by t back (source_surface s t feed) (moved_back (stand_of at feed) p) ≡ source_at s t back feed p
 source_of_one s t at screen back alone feeds.Nothing p = refl
 source_of_one s t at screen back alone feeds.Desk p =

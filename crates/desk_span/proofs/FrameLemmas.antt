@@ -9,7 +9,7 @@ use Rattle.geom_base.specs.declared.point.Point.{Point}
 use Rattle.geom_base.specs.declared.rect.Rect.{Rect}
 use Rattle.geom_base.specs.declared.size.Size.{Size}
 use Rattle.geom_base.specs.Points.{HasPoints, IsIn, is_in, LiesIn, most_side, moved, moved_rect, point_at, whole, RectMoves}
-use Rattle.geom_base.specs.PointLaws.{has_point, is_in-IsIn, first_is_in, lies_between, same_edges}
+use Rattle.geom_base.specs.PointLaws.{has_point, is_in-IsIn, first_is_in, same_edges}
 use Rattle.geom_base.specs.Tests.{same_tests}
 use Rattle.brush_obj.specs.Calls.{PointMovesBack, moved_call, rect_of, src_of}
 use Rattle.brush_obj.specs.declared.draw_call.DrawCall.{DrawCall}
@@ -17,12 +17,13 @@ use Rattle.brush_obj.specs.declared.draw_call.DrawCall.TheVariants.{Blt, Copy, P
 use Rattle.clip_obj.specs.Clip.{LiesWithin, to_origin}
 use Rattle.script_orders.specs.Asked.{IsSurfaceSize}
 use Rattle.script_orders.specs.declared.desk_command.DeskCommand.{DeskCommand}
-use Rattle.desk_span.specs.Desk.{IsStand, MayStandAt, area_of, in_clip}
+use Rattle.script_orders.specs.Places.{IsStand, MayStandAt}
+use Rattle.desk_span.specs.Desk.{area_of, in_clip}
 use Rattle.desk_span.specs.InnerFrames.{LetsThrough}
 use Rattle.desk_span.specs.Meeting.{Reaches}
 
 -- rectangles within one that lies in a surface lie there
-all_lie_in : (frame : Rect) (size : Size) (rects : List Rect) → LiesIn frame size → All (LiesWithin frame) rects → All (λ r. LiesIn r size) rects
+pub all_lie_in : (frame : Rect) (size : Size) (rects : List Rect) → LiesIn frame size → All (LiesWithin frame) rects → All (λ r. LiesIn r size) rects
 all_lie_in frame size rects f all k d lt =
     let w = all k d lt in
     record {
@@ -52,7 +53,7 @@ there_and_back p at = λ i. record {
   y = (let e : (p.y +ℤ at.y) +ℤ (pos 0 -ℤ at.y) ≡ p.y = omega (arith, ints) in e) i;
 }
 
-back_and_there : (p at : Point) → moved (moved p (to_origin at)) at ≡ p
+pub back_and_there : (p at : Point) → moved (moved p (to_origin at)) at ≡ p
 back_and_there p at = λ i. record {
   x = (let e : (p.x +ℤ (pos 0 -ℤ at.x)) +ℤ at.x ≡ p.x = omega (arith, ints) in e) i;
   y = (let e : (p.y +ℤ (pos 0 -ℤ at.y)) +ℤ at.y ≡ p.y = omega (arith, ints) in e) i;
@@ -76,10 +77,10 @@ pub record IsEdge (z : ℤ) : Type 0 where
   pub low : pos 0 ≤ℤ z
   pub high : z ≤ℤ pos most_side
 
-first_edge : (a b : ℤ) (n : ℕ) → pos 0 ≤ℤ a → a ≤ℤ b → b ≤ℤ pos n → n ≤ most_side → IsEdge a
+pub first_edge : (a b : ℤ) (n : ℕ) → pos 0 ≤ℤ a → a ≤ℤ b → b ≤ℤ pos n → n ≤ most_side → IsEdge a
 first_edge a b n low along high few = record { low = low; high = omega (arith, ints, along, high, few) }
 
-last_edge : (a b : ℤ) (n : ℕ) → pos 0 ≤ℤ a → a ≤ℤ b → b ≤ℤ pos n → n ≤ most_side → IsEdge b
+pub last_edge : (a b : ℤ) (n : ℕ) → pos 0 ≤ℤ a → a ≤ℤ b → b ≤ℤ pos n → n ≤ most_side → IsEdge b
 last_edge a b n low along high few = record { low = omega (arith, ints, low, along); high = omega (arith, ints, high, few) }
 
 edge_stands : (z at : ℤ) → IsEdge z → IsStand at → FitsSigned w32 (z +ℤ at)

@@ -3,5 +3,9 @@ pub mod CanvasLemmas
 pub mod DeskLemmas
 pub mod DrawLemmas
 pub mod FrameLemmas
+pub mod HandedLemmas
 pub mod LiveLemmas
+pub mod PieceLemmas
+pub mod RoutedLemmas
 pub mod RowCopyLemmas
+pub mod ScreenLemmas

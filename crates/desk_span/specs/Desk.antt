@@ -1,5 +1,5 @@
 -- The state of a desk, and one command on it.
-use Rattle.std.specs.Prelude.{ℕ, ℤ, pos, negsuc, ◌*◌, ◌+◌, ◌-ℤ◌, ◌≤ℤ◌, Bool, true, false, List, [], ◌∷◌, ◌++◌, length, map, replicate}
+use Rattle.std.specs.Prelude.{ℕ, ◌*◌, ◌+◌, ◌-ℤ◌, Bool, true, false, List, [], ◌∷◌, ◌++◌, length, map, replicate}
 use Rattle.std.specs.Prelude.{slice_get, slice_index_or, slice_set, Option, Some, None, option_map, unwrap_or, ◌&&◌, if◌then◌else◌}
 use Rattle.geom_base.specs.declared.point.Point.{Point}
 use Rattle.geom_base.specs.declared.rect.Rect.{Rect}
@@ -55,14 +55,6 @@ blank size format table = record { size = size; format = format; table = table; 
 -- a surface that looks so
 abbrev pub look_of : Surface → Look
 look_of t = record { size = t.size; format = t.format }
-
--- a coordinate of a point at which a screen may stand
-abbrev pub IsStand : ℤ → Type 0
-IsStand z = (negsuc 16383 ≤ℤ z) × (z ≤ℤ pos 16383)
-
--- a screen may stand at a point
-abbrev pub MayStandAt : Point → Type 0
-MayStandAt p = IsStand p.x × IsStand p.y
 
 -- a screen that stands at a point
 abbrev pub standing_at : Point → Surface → ScreenAt

@@ -23,7 +23,7 @@ use Rattle.script_orders.specs.declared.desk_command.Spot.TheVariants as spots
 use Rattle.script_orders.specs.declared.named.Named.{Named}
 use Rattle.script_orders.specs.declared.named.Named.TheVariants.{Screen, Bitmap}
 use Rattle.desk_span.specs.declared.others.Others.{Others}
-use Rattle.desk_span.specs.declared.reports.Cause.TheVariants.{Memory}
+use Rattle.hook_route.specs.declared.outcome.Cause.TheVariants.{Memory}
 use Rattle.desk_span.specs.Reports.{Told}
 use Rattle.desk_span.specs.Desk.{State, bitmap_at, row_like, standing_at}
 

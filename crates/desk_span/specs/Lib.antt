@@ -1,9 +1,15 @@
 pub mod Reports
 pub mod Desk
+pub mod Kept
 pub mod LiveLaws
 pub mod Meeting
+pub mod Pieces
+pub mod Drives
 pub mod Telling
+pub mod Reading
 pub mod InnerBeside
 pub mod InnerDrawing
 pub mod InnerFrames
+pub mod InnerPieces
+pub mod InnerRouted
 pub mod InnerRows

@@ -6,7 +6,7 @@ use Rattle.geom_base.specs.declared.rect.Rect.{Rect}
 use Rattle.geom_base.specs.Points.{is_in_some}
 use Rattle.script_orders.specs.declared.named.Named.{Named}
 use Rattle.script_orders.specs.declared.named.Named.TheVariants.{Screen, Bitmap}
-use Rattle.desk_span.specs.declared.reports.Cause.{Cause}
+use Rattle.hook_route.specs.declared.outcome.Cause.{Cause}
 
 -- the report on a target: why, and the rectangles that were done
 pub record Told : Type 0 where

@@ -8,7 +8,7 @@ use Rattle.brush_obj.specs.Calls.{reach_of_call}
 use Rattle.script_orders.specs.declared.desk_command.DeskCommand.{DeskCommand}
 use Rattle.script_orders.specs.declared.named.Named.{Named}
 use Rattle.script_orders.specs.declared.named.Named.TheVariants.{Screen}
-use Rattle.desk_span.specs.declared.reports.Cause.TheVariants.{Memory}
+use Rattle.hook_route.specs.declared.outcome.Cause.TheVariants.{Memory}
 use Rattle.desk_span.specs.declared.reports.DeskOutcome.{DeskOutcome}
 use Rattle.desk_span.specs.declared.reports.DeskOutcome.TheVariants as outcomes
 use Rattle.desk_span.specs.Desk.{State, asked_point}

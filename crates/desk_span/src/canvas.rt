@@ -1,6 +1,6 @@
 //! The surfaces of the desk.
 
-ghost use Rattle.std.specs.Prelude.{◌≡◌, ◌<◌, ◌≤◌, ◌+◌, ◌*◌, ◌^◌, All, length, option_map, IfOk, OnOk, OnErr, take, drop, unwrap_or};
+ghost use Rattle.std.specs.Prelude.{◌≡◌, ◌<◌, ◌≤◌, ◌*◌, ◌^◌, [], All, length, option_map, IfOk, OnOk, OnErr, unwrap_or};
 ghost use Rattle.std.specs.Option.{option_copied};
 ghost use Rattle.geom_base.specs.Points.{is_in_some, LiesIn, most_side};
 ghost use Rattle.pix_format.specs.Value.{bits_of, colours_of};
@@ -18,7 +18,7 @@ use crate::row::put_values;
 use brush_obj::{BrushObj, BrushRefusal, DrawCall};
 use clip_obj::ClipObj;
 use eng_calls::{Inputs, eng_draw};
-use geom_base::{Point, Size};
+use geom_base::Size;
 use pix_format::{ColourTable, Format, Rgb, XlateObj};
 use std::alloc::{AllocError, Global};
 use std::marker::Model;
@@ -94,27 +94,21 @@ impl Canvas {
         self.pixels.view()
     }
 
-    /// Reads the values of a row.
-    pub fn read_row(&self, y: u32, values: &mut [u32])
-        requires row { y < self.now.size.h }
-        requires places { length values.old ≡ self.now.size.w }
-        ensures { values.new ≡ take self.now.size.w (drop (y * self.now.size.w) self.now.values) }
+    /// Reads its values, row by row, in place of what the list had. The list's room is kept.
+    ///
+    /// # Errors
+    ///
+    /// `AllocError` for want of memory; the list is empty then.
+    pub(crate) fn read(&self, values: &mut Vec<u32>) -> Result<(), AllocError>
+        ensures ok { OnOk result (values.new.items ≡ self.now.values) }
+        ensures fits { OnOk result (All (λ v. v < 2 ^ bits_of self.now.format) values.new.items) }
+        ensures err { OnErr result (values.new.items ≡ []) }
     {
-        self.pixels.view().read_row(Point::at(0, y), values);
-    }
-
-    /// Its values, row by row.
-    fn values(&self, alloc: Global) -> Result<Vec<u32>, AllocError>
-        ensures values { IfOk result (λ v. v.items ≡ self.now.values) }
-        ensures fits { IfOk result (λ v. All (λ x. x < 2 ^ bits_of self.now.format) v.items) }
-    {
-        let Size { w, h } = self.pixels.size();
-        let view = self.pixels.view();
-        let mut values = Vec::new(alloc);
-        for i in 0..w * h {
-            values.push(view.get(Point::at(i % w, i / w)))?;
-        }
-        Ok(values)
+        let size = self.size();
+        values.clear();
+        values.resize((size.w * size.h) as usize, 0)?;
+        self.view().read_rect(&size.whole(), values.as_mut_slice());
+        Ok(())
     }
 
     /// A brush that is a copy of it, with the background colour in force.
@@ -124,7 +118,8 @@ impl Canvas {
         ensures { IfOk result (λ b. b.face ≡ faces.Pattern (image_of self.now back)) }
     {
         let size = self.pixels.size();
-        let values = self.values(alloc)?;
+        let mut values = Vec::new(alloc);
+        self.read(&mut values)?;
         let format = self.pixels.format();
         match BrushObj::pattern(alloc, size, format, &self.table, &values, back) {
             Ok(brush) => Ok(brush),
@@ -214,7 +209,7 @@ impl Canvas {
 }
 
 /// The pixels of a surface that may not be there, to be read.
-fn view_of<'a>(canvas: Option<&'a Canvas>) -> Option<LentView<'a>>
+pub fn view_of<'a>(canvas: Option<&'a Canvas>) -> Option<LentView<'a>>
     ensures { option_map seen_of_view result ≡ option_map seen_of (option_copied canvas.entry) }
 {
     match canvas {

@@ -1,12 +1,14 @@
 //! The desk.
 
-ghost use Rattle.std.specs.Prelude.{◌≡◌, [], ◌∷◌, IfOk, OnOk, OnErr, Some};
+ghost use Rattle.std.specs.Prelude.{◌≡◌, ◌≢◌, [], ◌∷◌, IfOk, OnOk, OnErr, Some};
+ghost use Rattle.geom_base.specs.declared.port_answer.PortAnswer.TheVariants as answers;
 ghost use Rattle.script_orders.specs.Asked.{CanCreate, IsSurfaceSize};
 ghost use Rattle.script_orders.specs.Live.{Any, CanDraw, FaceIsThere, IsThere, NamedIsThere};
 ghost use Rattle.script_orders.specs.declared.script_command.ScriptCommand.TheVariants as asked;
 ghost use Rattle.desk_span.specs.Desk.{bitmap_at, carried, face_made, first_state, live_of, surface_at};
 ghost use Rattle.desk_span.specs.InnerBeside.{target_of, wanting};
 ghost use Rattle.desk_span.specs.Meeting.{Meets};
+ghost use Rattle.desk_span.specs.Reading.{IsRead, LooksSo, SurfaceIs};
 ghost use Rattle.desk_span.specs.Telling.{AreReports, TellsAs};
 ghost use Rattle.script_orders.specs.declared.desk_command.Spot.TheVariants as spots;
 
@@ -14,13 +16,21 @@ use crate::canvas::Canvas;
 use crate::draw::draw_beside;
 use crate::others::Others;
 use crate::place::{ORIGIN, Screen, is_seen_from_origin};
-use crate::reports::{Cause, DeskOutcome, Report, Reports};
+use crate::reports::{DeskOutcome, Report, Reports};
 use brush_obj::BrushObj;
-use geom_base::Size;
+use geom_base::{DrawnList, PortAnswer, Size};
+use hook_route::Cause;
 use pix_format::{ColourTable, Format, Rgb};
 use script_orders::{BrushOrder, CreateOrder, DeskCommand, FaceOrder, Named, Spot};
 use std::alloc::{AllocError, Global};
 use std::marker::Model;
+
+/// What a surface looks like from outside: its size, and how its pixels are kept.
+#[derive(Clone, Copy, Debug, PartialEq, Eq)]
+pub struct SurfaceLook {
+    pub size: Size,
+    pub format: Format,
+}
 
 /// The screen, and the bitmaps and brushes in the order in which they were made.
 #[derive(Drop)]
@@ -65,13 +75,39 @@ impl Desk {
     }
 
     /// The surface of a name.
-    pub fn surface(&self, name: Named) -> &Canvas
+    fn surface(&self, name: Named) -> &Canvas
         requires { NamedIsThere (live_of self.now) name }
         ensures { surface_at self.now name ≡ Some result.now }
     {
         match name {
             Named::Screen(_) => &self.screen.canvas,
             Named::Bitmap(number) => self.bitmap(number),
+        }
+    }
+
+    /// The size of a surface, and how its pixels are kept.
+    pub fn look(&self, what: Named) -> SurfaceLook
+        requires { NamedIsThere (live_of self.now) what }
+        ensures look { SurfaceIs self.now what (LooksSo result) }
+        ensures fits { IsSurfaceSize result.size }
+    {
+        let canvas = self.surface(what);
+        SurfaceLook {
+            size: canvas.size(),
+            format: canvas.format(),
+        }
+    }
+
+    /// Reads the values of a surface whole, row by row, in place of what the list had. The list's room is kept, so a second surface of
+    /// no more pixels takes no memory. The engine's own surfaces never fault.
+    pub fn read(&self, what: Named, out: &mut Vec<u32>) -> PortAnswer
+        requires { NamedIsThere (live_of self.now) what }
+        ensures read { SurfaceIs self.now what (IsRead result out.new.items) }
+        ensures faultless { result ≢ answers.Fault }
+    {
+        match self.surface(what).read(out) {
+            Ok(()) => PortAnswer::Done,
+            Err(_) => PortAnswer::NoMemory,
         }
     }
 
@@ -154,7 +190,7 @@ impl Desk {
             Ok(()) => DeskOutcome::All,
             Err(_) => {
                 let target = target_of(command.target);
-                reports.add(Report::of(target, Cause::Memory, Vec::new(alloc)));
+                reports.add(Report::of(target, Cause::Memory, DrawnList::new(alloc)));
                 DeskOutcome::Parted
             }
         }

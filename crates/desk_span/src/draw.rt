@@ -9,7 +9,8 @@ ghost use Rattle.pix_format.specs.declared.rgb.Rgb.{Rgb};
 ghost use Rattle.surf_obj.specs.Surface.{changed};
 ghost use Rattle.brush_obj.specs.Calls.{PointMovesBack, new_of_call, new_of_copy, src_of};
 ghost use Rattle.script_orders.specs.Asked.{MaskIsOther};
-ghost use Rattle.desk_span.specs.Desk.{MayStandAt, State, area_of, new_of, operands_of};
+ghost use Rattle.script_orders.specs.Places.{MayStandAt};
+ghost use Rattle.desk_span.specs.Desk.{State, area_of, new_of, operands_of};
 ghost use Rattle.desk_span.specs.Meeting.{Reaches};
 ghost use Rattle.desk_span.specs.InnerBeside.{CanBeSeen, DrawsOn, IsBeside, IsNoRow, WasMade, stand_of};
 ghost use Rattle.desk_span.specs.InnerDrawing.{holding};
@@ -19,16 +20,16 @@ ghost use Rattle.desk_span.specs.InnerRows.{CopiesRow, row_operands};
 use crate::canvas::Canvas;
 use crate::inputs::CanvasInputs;
 use crate::others::{BLACK, Others, is_own, plain_colour};
-use crate::place::{ORIGIN, origin_from};
+use crate::place::ORIGIN;
 use brush_obj::{BltCall, BrushObj, CopyCall, DrawCall, calls_move};
-use clip_obj::ClipObj;
+use clip_obj::{ClipObj, origin_from};
 use geom_base::{Point, Rect, distance};
 use region::Region;
 use script_orders::{DeskCommand, Feed, NamedRegion};
 use std::alloc::{AllocError, Global};
 
 /// The region of a clip, where there is one.
-fn region_of(clip: &Option<NamedRegion>) -> Option<&Region>
+pub fn region_of(clip: &Option<NamedRegion>) -> Option<&Region>
     ensures { option_copied result ≡ clip.now }
 {
     match clip {
@@ -38,7 +39,7 @@ fn region_of(clip: &Option<NamedRegion>) -> Option<&Region>
 }
 
 /// A clip lets a point of a frame through. Without a region it lets all through.
-fn meets(clip: Option<&Region>, frame: &Rect) -> bool
+pub fn meets(clip: Option<&Region>, frame: &Rect) -> bool
     ensures { IsTrue result ↔ LetsThrough (option_copied clip.entry) frame.now }
 {
     match clip {
@@ -69,7 +70,7 @@ pub fn draw_beside(
     ensures meets { OnErr result (Reaches (λ p. area_of command.now (moved p at)) target.old.size) }
 {
     calls_move();
-    let call = command.call.shifted(origin_from(at));
+    let call = command.call.shifted(origin_from(&at));
     let frame = call.rect().cut_to(target.size());
     let asked = frame.shifted(at);
     let region = region_of(&command.clip);

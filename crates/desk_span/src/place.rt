@@ -5,7 +5,6 @@ ghost use Rattle.geom_base.specs.Points.{RectMoves};
 ghost use Rattle.script_orders.specs.Rows.{zero_point};
 ghost use Rattle.brush_obj.specs.Calls.{PointMoves, PointMovesBack};
 ghost use Rattle.clip_obj.specs.Clip.{to_origin};
-ghost use Rattle.desk_span.specs.Desk.{MayStandAt};
 ghost use Rattle.desk_span.specs.InnerBeside.{CanBeSeen};
 
 use crate::canvas::Canvas;
@@ -21,17 +20,6 @@ pub struct Screen {
     pub canvas: Canvas,
     /// The point of the desk that its first point is.
     pub at: Point,
-}
-
-/// Where 0 0 is, seen from a point.
-pub fn origin_from(at: Point) -> Point
-    requires { MayStandAt at }
-    ensures { result ≡ to_origin at }
-{
-    Point {
-        x: 0 - at.x,
-        y: 0 - at.y,
-    }
 }
 
 /// The coordinates of a call are numbers of 32 bits, and stay so where nothing is moved.

@@ -3,19 +3,11 @@
 ghost use Rattle.std.specs.Prelude.{◌≡◌, ◌<◌, ◌++◌, ◌∷◌, [], length, IfOk};
 ghost use Rattle.desk_span.specs.declared.reports.TheConstants.{MOST_REPORTS};
 
-use geom_base::Rect;
+use geom_base::{DrawnList, Rect};
+use hook_route::Cause;
 use script_orders::Named;
 use std::alloc::{AllocError, Global};
 use std::marker::Model;
-
-/// Why a drawing was not done whole.
-#[derive(Clone, Copy, Debug, PartialEq, Eq)]
-pub enum Cause {
-    /// A device failed.
-    Fault,
-    /// Memory was wanting.
-    Memory,
-}
 
 /// How a drawing went.
 #[derive(Clone, Copy, Debug, PartialEq, Eq)]
@@ -31,7 +23,7 @@ pub enum DeskOutcome {
 pub struct Report {
     target: Named,
     cause: Cause,
-    rects: Vec<Rect>,
+    drawn: DrawnList,
 }
 
 impl Model for Report {
@@ -39,18 +31,18 @@ impl Model for Report {
 
     ghost Value = { Told };
 
-    ghost view = { λ r. record { target = r.target; cause = r.cause; rects = r.rects.items } };
+    ghost view = { λ r. record { target = r.target; cause = r.cause; rects = r.drawn.rects } };
 }
 
 impl Report {
     /// Of a target only these rectangles were done.
-    pub fn of(target: Named, cause: Cause, rects: Vec<Rect>) -> Report
-        ensures { result ≡ record { target = target; cause = cause; rects = rects.items } }
+    pub fn of(target: Named, cause: Cause, drawn: DrawnList) -> Report
+        ensures { result ≡ record { target = target; cause = cause; rects = drawn.rects } }
     {
         Report {
             target,
             cause,
-            rects,
+            drawn,
         }
     }
 
@@ -72,7 +64,7 @@ impl Report {
     pub fn rects(&self) -> &[Rect]
         ensures { result.now ≡ self.now.rects }
     {
-        self.rects.as_slice()
+        self.drawn.rects()
     }
 }
 

@@ -1,2 +1,1 @@
-mod BlankLemmas
 mod LinearLemmas

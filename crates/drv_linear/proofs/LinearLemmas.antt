@@ -14,8 +14,8 @@ use Rattle.pix_format.specs.declared.rgb.Rgb.{Rgb}
 use Rattle.pix_format.specs.Value.{colours_of}
 use Rattle.pix_format.specs.Xlate.{Translation}
 use Rattle.surf_obj.specs.declared.layout.Layout.{Layout}
-use Rattle.surf_obj.specs.Layout.{Holds, layout_from, row_bytes, values_in}
-use Rattle.surf_obj.specs.Object.{stride_of}
+use Rattle.surf_obj.specs.Layout.{Holds, row_bytes, values_in}
+use Rattle.surf_obj.specs.Object.{padded}
 use Rattle.surf_obj.specs.Surface.{Surface, changed}
 use Rattle.surf_obj.specs.declared.view.LentView.{LentView}
 use Rattle.brush_obj.specs.Calls.{Operands, as_kept, held_of, new_of_call, shown, target_of}
@@ -34,7 +34,7 @@ use Rattle.ddi_driver.specs.Modes.{IsMode}
 use Rattle.drv_linear.specs.State.{HoldsScreen, IsScreenOf, rest_with, shown_at, state_with, surface_at}
 use Rattle.drv_linear.specs.declared.policy.Policy.{Policy}
 use Rattle.drv_linear.specs.declared.screen.Screen.{Screen}
-use Rattle.drv_linear.proofs.BlankLemmas.{values_in-zeros}
+use Rattle.surf_obj.specs.BlankLaws.{values_in-zeros}
 
 -- as many bytes hold the screen still
 pub held_still : (o : Option Screen) (a b : List ℕ) → length b ≡ length a → HoldsScreen o (length a) → HoldsScreen o (length b)
@@ -181,17 +181,17 @@ counts_offer o bytes holds now faults written policy offered declined asked (Bit
 holds_one : (s : Screen) (bytes : List ℕ) → Holds s.layout (length bytes) → HoldsScreen (Some s) (length bytes)
 holds_one s bytes h x e = subst (λ (y : Screen). Holds y.layout (length bytes)) (ap (λ (o : Option Screen). unwrap_or o s) e) h
 
-padded_holds : (l : Layout) (m : Mode) (bytes : List ℕ) → IsMode m → l ≡ layout_from m.size m.format (stride_of m.format m.size.w) false →
+padded_holds : (l : Layout) (m : Mode) (bytes : List ℕ) → IsMode m → l ≡ padded m.size m.format →
     bytes ≡ replicate (l.size.h * l.stride) 0 → Holds l (length bytes)
 padded_holds l m bytes mode e zeros =
     let long : length bytes ≡ l.size.h * l.stride = ap length zeros ∙ length-replicate (l.size.h * l.stride) 0 in
-    rw long (rw e (record { rows = zero_more _; columns = padded (row_bytes m.format m.size.w); sides = mode.size.sides }))
+    rw long (rw e (record { rows = zero_more _; columns = rounded (row_bytes m.format m.size.w); sides = mode.size.sides }))
   where
     zero_more : (n : ℕ) → 0 + n ≤ n
     zero_more n = omega arith
 
-    padded : (n : ℕ) → n ≤ (n + 3) / 4 * 4
-    padded n = omega arith
+    rounded : (n : ℕ) → n ≤ (n + 3) / 4 * 4
+    rounded n = omega arith
 
 pub new_holds : (s : Screen) (m : Mode) (bytes : List ℕ) → IsMode m → IsScreenOf m s →
     bytes ≡ replicate (s.layout.size.h * s.layout.stride) 0 → HoldsScreen (Some s) (length bytes)

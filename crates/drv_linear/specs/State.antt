@@ -1,11 +1,11 @@
 -- What a driver of a linear frame buffer shows and counts.
-use Rattle.std.proofs.Common.{◌≡◌, refl, ℕ, Bool, false, List, [], length, Option, Some, None, option_map, sym, true≢false}
+use Rattle.std.proofs.Common.{◌≡◌, refl, ℕ, Bool, List, [], length, Option, Some, None, option_map, sym, true≢false}
 use Rattle.std.specs.Option.{ForSome}
 use Rattle.geom_base.specs.declared.target.Target.{Target}
 use Rattle.geom_base.specs.declared.target.Target.TheVariants.{Screen as screen, Bitmap}
-use Rattle.surf_obj.specs.Layout.{Holds, layout_from, values_in}
+use Rattle.surf_obj.specs.Layout.{Holds, values_in}
 use Rattle.surf_obj.specs.LayoutLaws.{length-values_in}
-use Rattle.surf_obj.specs.Object.{stride_of}
+use Rattle.surf_obj.specs.Object.{padded}
 use Rattle.surf_obj.specs.Surface.{Surface}
 use Rattle.copy_port.specs.Classes.{has_hook}
 use Rattle.copy_port.specs.State.{IsLive, IsSurface, PortState, Rest, Shown, next_count, surface_of}
@@ -21,7 +21,7 @@ surface_at s bytes = record { size = s.layout.size; format = s.layout.format; ta
 
 -- the screen of a mode, at the first byte
 pub record IsScreenOf (m : Mode) (s : Screen) : Type 0 where
-  pub layout : s.layout ≡ layout_from m.size m.format (stride_of m.format m.size.w) false
+  pub layout : s.layout ≡ padded m.size m.format
   pub table : s.table ≡ m.table
 
 -- so many bytes hold a screen, where there is one

@@ -190,7 +190,7 @@ impl<P: LinearMem> DisplayDriver for LinearDriver<P> {
         ensures policy { OnOk result (self.new.policy ≡ policy_of mode.now) }
     {
         let screen = Screen::of(alloc, mode)?;
-        match self.port.power_on(alloc, screen.len(), &mode.faults) {
+        match self.port.power_on(alloc, screen.layout.len(), &mode.faults) {
             Ok(()) => {}
             Err(PowerRefusal::Fault) => return Err(EnableRefusal::Fault),
             Err(PowerRefusal::NoMemory) => return Err(EnableRefusal::NoMemory),

@@ -1,9 +1,6 @@
 -- A call on the copy of a frame of its target, taken over to the target.
-use Rattle.std.proofs.Common.{◌≡◌, ◌∙◌, ℕ, ℤ, pos, ◌+ℤ◌, ◌-ℤ◌, Bool, true, false, ◌||◌, IsTrue, List, [], ◌∷◌, map, int_le, int_lt, Option, Some, None, option_map, refl, ap, sym, subst, arith, ◌⊎◌, inl, inr, unwrap_or}
-use Rattle.std.specs.List.{All}
-use Rattle.std.proofs.lemmas.Bool.{false≢true}
+use Rattle.std.proofs.Common.{◌≡◌, ◌∙◌, ℕ, ℤ, pos, ◌+ℤ◌, ◌-ℤ◌, ◌||◌, IsTrue, List, [], ◌∷◌, map, int_le, int_lt, Option, Some, None, option_map, refl, ap, sym, arith, ◌⊎◌, inl, inr, unwrap_or}
 use Rattle.std.proofs.lemmas.Int.{ints}
-use Rattle.std.proofs.lemmas.List.Elements.{All-head, All-tail}
 use Rattle.geom_base.specs.declared.point.Point.{Point}
 use Rattle.geom_base.specs.declared.rect.Rect.{Rect}
 use Rattle.geom_base.specs.declared.size.Size.{Size}
@@ -22,7 +19,8 @@ use Rattle.clip_obj.specs.Clip.{to_origin}
 use Rattle.clip_obj.specs.ClipLaws.{clip_in}
 use Rattle.copy_port.specs.Given.{CanDraw, Picture, asked_of, first_of, held_in, operands_given, picture_of_view, points_of}
 use Rattle.copy_port.specs.State.{Shown, surface_of}
-use Rattle.eng_calls.specs.InnerCopies.{FindsSources, Frames, HeldFor, IsDrawnCopy, IsLentAs, StandsIn, begins_at}
+use Rattle.eng_calls.specs.Copies.{HeldFor, begins_at}
+use Rattle.eng_calls.specs.InnerCopies.{FindsSources, Frames, IsDrawnCopy, IsLentAs, StandsIn}
 use Rattle.eng_calls.specs.Inputs.{drawn_with, given_of}
 use Rattle.eng_calls.specs.declared.copies.PartCopy.{PartCopy}
 use Rattle.eng_calls.specs.declared.inputs.Inputs.{Inputs}

@@ -25,7 +25,8 @@ use Rattle.brush_obj.specs.declared.draw_call.DrawCall.{DrawCall}
 use Rattle.brush_obj.specs.declared.draw_call.DrawCall.TheVariants.{Blt, Copy, Paint}
 use Rattle.copy_port.specs.Given.{HasCoordinates, IsCallRect, IsCoordinate, IsPoint, Picture, held_in, picture_of, points_of}
 use Rattle.copy_port.specs.State.{IsLive, PortState, Shown, surface_of}
-use Rattle.eng_calls.specs.InnerCopies.{FindsSources, HeldFor, IsCopyOf, IsHeldPart, IsPlace, LiesOnTarget, StandsIn, begins_at, to_source}
+use Rattle.eng_calls.specs.Copies.{HeldFor, IsHeldPart, IsPlace, LiesOnTarget, begins_at}
+use Rattle.eng_calls.specs.InnerCopies.{FindsSources, IsCopyOf, StandsIn, to_source}
 use Rattle.eng_calls.specs.declared.copies.PartCopy.{PartCopy}
 
 -- a rectangle of a target lies on a surface, and has sides

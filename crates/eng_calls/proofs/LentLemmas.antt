@@ -23,7 +23,7 @@ use Rattle.brush_obj.specs.declared.draw_call.DrawCall.TheVariants.{Blt, Copy, P
 use Rattle.blt_kernel.specs.Handed.{mask_of, source_of}
 use Rattle.copy_port.specs.Given as given
 use Rattle.copy_port.specs.State.{Shown}
-use Rattle.eng_calls.specs.InnerCopies.{HeldFor, begins_at, picture_of_copy}
+use Rattle.eng_calls.specs.Copies.{HeldFor, begins_at, picture_of_copy}
 use Rattle.eng_calls.specs.Inputs.{drawn_with, given_of, pattern_of, translated_by}
 use Rattle.eng_calls.specs.declared.copies.PartCopy.{PartCopy}
 use Rattle.eng_calls.specs.declared.inputs.Inputs.{Inputs}

@@ -8,4 +8,5 @@ pub mod LentLemmas
 pub mod SuitLemmas
 pub mod HeldLemmas
 pub mod CopyStepLemmas
+pub mod StraightLemmas
 pub mod ManagedLemmas

@@ -1,10 +1,9 @@
 -- Managed calls: the frame of a clip, and the room of a drawn list.
-use Rattle.std.proofs.Common.{◌≡◌, ◌∙◌, ℕ, ◌+◌, ◌*◌, ◌≤◌, min, ◌<◌, Bool, true, false, ◌||◌, IsTrue, List, [], ◌∷◌, length, get_or, refl, ap, sym, subst, arith}
+use Rattle.std.proofs.Common.{◌≡◌, ◌∙◌, ℕ, ◌+◌, ◌*◌, ◌≤◌, min, ◌<◌, Bool, true, false, ◌||◌, IsTrue, List, length, get_or, refl, ap, sym, subst, arith}
 use Rattle.std.proofs.Common.{Option, None, unwrap_or, Result, Ok, Err, is_err, OnOk, OnErr}
 use Rattle.std.specs.List.{All}
 use Rattle.std.proofs.lemmas.Bool.{false≢true}
 use Rattle.std.proofs.lemmas.Int.{ints}
-use Rattle.std.proofs.lemmas.List.Elements.{All-head, All-tail}
 use Rattle.std.proofs.lemmas.List.Folds.{list_any_at}
 use Rattle.geom_base.specs.declared.point.Point.{Point}
 use Rattle.geom_base.specs.declared.port_answer.PortAnswer.{PortAnswer}
@@ -14,7 +13,7 @@ use Rattle.geom_base.specs.declared.size.Size.{Size}
 use Rattle.geom_base.specs.declared.target.Target.{Target}
 use Rattle.geom_base.specs.Drawn.{Drawn}
 use Rattle.geom_base.specs.PointLaws.{has_point, is_in-IsIn, lies_between}
-use Rattle.geom_base.specs.Points.{HasPoints, IsIn, LiesIn, corner_of, is_in, is_in_some, sides_of, whole}
+use Rattle.geom_base.specs.Points.{HasPoints, IsIn, LiesIn, corner_of, is_in, is_in_some, sides_of, whole, width_of}
 use Rattle.geom_base.specs.Step.{Area, Change}
 use Rattle.region.specs.Extents.{AreExtents}
 use Rattle.surf_obj.specs.Object.{object_values}
@@ -25,9 +24,11 @@ use Rattle.clip_obj.specs.Clip.{LiesWithin}
 use Rattle.clip_obj.specs.ClipLaws.{all_within, clip_in, lies_within}
 use Rattle.copy_port.specs.Laws.{draws_as, keeps_then_draws}
 use Rattle.copy_port.specs.Port.{Draws, Keeps}
-use Rattle.copy_port.specs.State.{PortState, Shown, surface_of}
+use Rattle.copy_port.specs.State.{IsLive, PortState, Rest, Shown, surface_of}
 use Rattle.eng_calls.specs.InnerBands.{bands_of}
+use Rattle.eng_calls.specs.Copies.{LiesOnTarget}
 use Rattle.eng_calls.specs.InnerCopies.{IsDrawnCopy}
+use Rattle.eng_calls.proofs.HeldLemmas.{frame_on_target}
 
 -- extents without points are those of no point
 pub no_extents : (rects : List Rect) (frame : Rect) (p : Point) → AreExtents rects frame → ¬ HasPoints frame → is_in_some p rects ≡ false
@@ -58,6 +59,16 @@ frame_inside rects frame size h points all =
       down = omega (arith, ints, points.down);
       bottom = b.bottom;
     }
+
+-- so they lie on a target in which the rectangles lie
+pub extents_on_target : (rects : List Rect) (frame : Rect) (t : Target) (state : PortState) → AreExtents rects frame → HasPoints frame →
+    IsLive state.shown t → All (λ r. LiesIn r (surface_of state.shown t).size) rects → LiesOnTarget frame
+extents_on_target rects frame t state h points live all =
+    frame_on_target frame t state live (frame_inside rects frame (surface_of state.shown t).size h points all)
+
+-- and no rectangle is wider than they are
+pub all_narrow : (rects : List Rect) (frame : Rect) (n : ℕ) → All (LiesWithin frame) rects → width_of frame ≤ n → All (λ r. width_of r ≤ n) rects
+all_narrow rects frame n within h = λ k d lt. let w = within k d lt in omega (arith, ints, w.left, w.across, w.right, h)
 
 -- nothing changed, for want of memory
 pub wanting : (before after : PortState) → Keeps before after Done → Keeps before after NoMemory
@@ -100,43 +111,35 @@ on_success (Err x) e h = absurd (false≢true (sym e))
 
 -- the room of a drawn list, in other words
 
-pub roomy_enough : (roomy mc mid n m : ℕ) (rects : List Rect) → mc ≡ mid → n ≡ m → mc * bands_of n rects ≤ roomy → mid * bands_of m rects ≤ roomy
-roomy_enough roomy mc mid n m rects a e h =
-    let x : mid * bands_of m rects ≡ mc * bands_of n rects = ap (λ k. k * bands_of m rects) (sym a) ∙ ap (λ k. mc * bands_of k rects) (sym e) in
-    omega (arith, x, h)
-
-pub roomy_left : (d roomy mc mid before n m : ℕ) (rects clip : List Rect) → mc ≡ mid → mid ≡ before → n ≡ m → rects ≡ clip →
-    d + mc * bands_of n rects ≤ roomy + mc * length rects → d + mid * bands_of m rects ≤ roomy + before * length clip
-roomy_left d roomy mc mid before n m rects clip a b e f h =
-    let x : mid * bands_of m rects ≡ mc * bands_of n rects = ap (λ k. k * bands_of m rects) (sym a) ∙ ap (λ k. mc * bands_of k rects) (sym e) in
-    let y : before * length clip ≡ mc * length rects = ap (λ k. k * length clip) (sym (a ∙ b)) ∙ ap (λ (l : List Rect). mc * length l) (sym f) in
-    omega (arith, x, y, h)
+pub roomy_left : (d roomy cuts most : ℕ) (n m : ℕ) (rects : List Rect) → cuts ≡ most → n ≡ m →
+    d + cuts * bands_of n rects ≤ roomy + cuts * length rects → d + most * bands_of m rects ≤ roomy + most * length rects
+roomy_left d roomy cuts most n m rects a e h = rw (← a, ← e) h
 
 -- what was written off the copy on which the call was drawn
 pub managed : (t at : Target) (new : Change) (clip rects : List Rect) (frame : Rect) (size : Size) (values : List ℕ) (copy : SurfObj)
-    (before mid after : PortState) (d roomy e given : Drawn) (answer : PortAnswer) (needed most : ℕ) →
-    IsDrawnCopy (surface_of before.shown t) frame clip new copy → Keeps before mid Done →
-    roomy.rects ≡ d.rects → d.spare ≤ roomy.spare → d.spare + needed ≤ roomy.spare + most → given.rects ≡ e.rects → min d.spare e.spare ≤ given.spare →
-    at ≡ t → rects ≡ clip → size ≡ sides_of frame → values ≡ object_values copy →
-    Draws at (as_in_at (corner_of frame) size values) (λ p. is_in_some p rects) needed mid after roomy e answer →
-    Draws t new (λ p. is_in_some p clip) most before after d given answer
-managed t at new clip rects frame size values copy before mid after d roomy e given answer needed most drew keeps same kept left back least here listed sides are h =
-    keeps_then_draws t new (λ p. is_in_some p clip) most before mid after d given Done answer keeps
-    (draws_roomy t new (λ p. is_in_some p clip) most needed mid after d roomy e given answer same kept left back least
-    (draws_as t f new (λ p. is_in_some p clip) (λ p. is_in_some p clip) needed mid after roomy e answer (λ p. refl)
+    (before mid after : PortState) (d e : Drawn) (answer : PortAnswer) → IsDrawnCopy (surface_of before.shown t) frame clip new copy →
+    Keeps before mid Done → at ≡ t → rects ≡ clip → size ≡ sides_of frame → values ≡ object_values copy →
+    Draws at (as_in_at (corner_of frame) size values) (λ p. is_in_some p rects) (mid.rest.cuts * length rects) mid after d e answer →
+    Draws t new (λ p. is_in_some p clip) (before.rest.cuts * length clip) before after d e answer
+managed t at new clip rects frame size values copy before mid after d e answer drew keeps here listed sides are h =
+    keeps_then_draws t new (λ p. is_in_some p clip) (before.rest.cuts * length clip) before mid after d e Done answer keeps
+    (draws_as t f new (λ p. is_in_some p clip) (λ p. is_in_some p clip) (before.rest.cuts * length clip) mid after d e answer (λ p. refl)
     (λ s area is inside. subst (λ (u : Surface). changed f area u ≡ changed new area u)
     (ap (λ (o : Option Surface). unwrap_or o nothing) (ap (λ (m : Shown). m t) (sym keeps.shown) ∙ is))
-    (ap (λ (vs : List ℕ). record (surface_of before.shown t) { values = vs }) (drew.step area inside))) written))
+    (ap (λ (vs : List ℕ). record (surface_of before.shown t) { values = vs }) (drew.step area inside)))
+    (subst (λ (n : ℕ). Draws t f (λ p. is_in_some p clip) (n * length clip) mid after d e answer) (ap (λ (r : Rest). r.cuts) keeps.rest) written))
   where
     f : Change
     f = as_in_at (corner_of frame) (sides_of frame) (object_values copy)
 
+    written : Draws t f (λ p. is_in_some p clip) (mid.rest.cuts * length clip) mid after d e answer
+    written =
+        subst (λ (u : Target). Draws u f (λ p. is_in_some p clip) (mid.rest.cuts * length clip) mid after d e answer) here
+        (subst (λ (l : List Rect). Draws at f (λ p. is_in_some p l) (mid.rest.cuts * length l) mid after d e answer) listed
+        (subst (λ (z : Size). Draws at (as_in_at (corner_of frame) z (object_values copy)) (λ p. is_in_some p rects) (mid.rest.cuts * length rects)
+        mid after d e answer) sides
+        (subst (λ (vs : List ℕ). Draws at (as_in_at (corner_of frame) size vs) (λ p. is_in_some p rects) (mid.rest.cuts * length rects) mid after d e answer)
+        are h)))
+
     nothing : Surface
     nothing = surface_of (λ (u : Target). None) t
-
-    written : Draws t f (λ p. is_in_some p clip) needed mid after roomy e answer
-    written =
-        subst (λ (u : Target). Draws u f (λ p. is_in_some p clip) needed mid after roomy e answer) here
-        (subst (λ (l : List Rect). Draws at f (λ p. is_in_some p l) needed mid after roomy e answer) listed
-        (subst (λ (z : Size). Draws at (as_in_at (corner_of frame) z (object_values copy)) (λ p. is_in_some p rects) needed mid after roomy e answer) sides
-        (subst (λ (vs : List ℕ). Draws at (as_in_at (corner_of frame) size vs) (λ p. is_in_some p rects) needed mid after roomy e answer) are h)))

@@ -26,7 +26,8 @@ use Rattle.blt_kernel.specs.Handed.{TranslatesFrom}
 use Rattle.clip_obj.specs.Clip.{LiesWithin, to_origin}
 use Rattle.copy_port.specs.Given as given
 use Rattle.copy_port.specs.State.{IsLive, Shown, surface_of}
-use Rattle.eng_calls.specs.InnerCopies.{HeldFor, IsHeldPart, IsLentAs, LiesOnTarget, picture_of_copy}
+use Rattle.eng_calls.specs.Copies.{HeldFor, IsHeldPart, LiesOnTarget, picture_of_copy}
+use Rattle.eng_calls.specs.InnerCopies.{IsLentAs}
 use Rattle.eng_calls.specs.Inputs.{HasBrush, IsGiven, Suits, Translates, given_of}
 use Rattle.eng_calls.specs.declared.copies.PartCopy.{PartCopy}
 use Rattle.eng_calls.specs.declared.inputs.Inputs.{Inputs}

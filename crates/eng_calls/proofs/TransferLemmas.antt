@@ -1,6 +1,6 @@
 -- Rectangles between a port and bits.
 use Rattle.std.proofs.Common.{◌≡◌, ◌∙◌, ℕ, ℤ, zero, suc, pos, ◌+◌, ◌*◌, ◌+ℤ◌, ◌-ℤ◌, ◌≤ℤ◌, ◌<◌, ◌≤◌, Bool, true, false, ◌||◌, IsTrue, true≢false}
-use Rattle.std.proofs.Common.{List, [], ◌∷◌, length, get_or, take, refl, ap, sym, subst, arith, Option, Some, is_some, unwrap_or, mul-le-mul_left, unsigned_abs}
+use Rattle.std.proofs.Common.{List, [], ◌∷◌, length, get_or, take, refl, ap, sym, subst, arith, Option, Some, is_some, unwrap_or, mul-le-mul_left, unsigned_abs, FitsSigned, w32}
 use Rattle.std.proofs.lemmas.Int.{ints}
 use Rattle.geom_base.specs.declared.point.Point.{Point}
 use Rattle.geom_base.specs.declared.port_answer.PortAnswer.{PortAnswer}
@@ -11,7 +11,7 @@ use Rattle.geom_base.specs.declared.target.Target.{Target}
 use Rattle.geom_base.specs.Drawn.{Drawn}
 use Rattle.geom_base.specs.Grid.{value_at}
 use Rattle.geom_base.specs.PointLaws.{is_in-IsIn, same_edges}
-use Rattle.geom_base.specs.Points.{HasPoints, LiesIn, corner_of, height_of, is_in, is_in_some, moved_rect, point_at, sides_of, width_of}
+use Rattle.geom_base.specs.Points.{HasPoints, HasSides, LiesIn, RectMoves, corner_of, height_of, is_in, is_in_some, moved_rect, point_at, sides_of, width_of}
 use Rattle.geom_base.specs.Step.{Area, Change, redrawn}
 use Rattle.geom_base.specs.StepLaws.{length-redrawn, redrawn_nowhere, redrawn_rule, value_at-redrawn}
 use Rattle.surf_obj.specs.RectLaws.{redrawn_twice, redrawn_written_at, reads_rect, written_as_at}
@@ -19,12 +19,12 @@ use Rattle.surf_obj.specs.Rects.{ReadsRect, as_in_at, rect_values, with_values}
 use Rattle.surf_obj.specs.Surface.{Surface}
 use Rattle.clip_obj.specs.Clip.{LiesWithin, to_origin}
 use Rattle.copy_port.specs.Laws.{draws_as, draws_part, draws_then_draws, format_on, live_on, size_on}
-use Rattle.copy_port.specs.Port.{Draws}
+use Rattle.copy_port.specs.Port.{Draws, InTarget}
 use Rattle.copy_port.specs.State.{PortState, Rest, Shown, drawn_on, surface_of}
 use Rattle.eng_calls.specs.declared.part.Part.{Part}
 use Rattle.eng_calls.specs.InnerBands.{band_count, band_of, bands_of, before_band}
 use Rattle.eng_calls.specs.InnerParts.{IsPart}
-use Rattle.eng_calls.proofs.BandLemmas.{bands_more, bands_part, before_end, before_first, before_next, one_more, row_end, some_more}
+use Rattle.eng_calls.proofs.BandLemmas.{band_points, band_within, bands_more, bands_part, before_end, before_first, before_next, one_more, row_end, some_more, within_itself}
 
 -- a rectangle of a part lies, moved, in the bits that stand for the part
 pub on_bits : (size : Size) (outer r : Rect) → size ≡ sides_of outer → LiesWithin outer r → LiesIn (moved_rect r (to_origin (corner_of outer))) size
@@ -37,7 +37,7 @@ on_bits size outer r e h = subst (LiesIn (moved_rect r (to_origin (corner_of out
   bottom = omega (arith, ints, h.top, h.down, h.bottom);
 })
 
-same_side : (a b by : ℤ) → unsigned_abs ((b +ℤ by) -ℤ (a +ℤ by)) ≡ unsigned_abs (b -ℤ a)
+pub same_side : (a b by : ℤ) → unsigned_abs ((b +ℤ by) -ℤ (a +ℤ by)) ≡ unsigned_abs (b -ℤ a)
 same_side a b by = omega (arith, ints)
 
 -- a moved rectangle has as many points
@@ -48,11 +48,7 @@ moved_count r by = rw (same_side r.left r.right by.x, same_side r.top r.bottom b
 
 part_on : (t : Target) (new : Change) (area : Area) (m : Shown) (part : Part) → IsPart m part → IsPart (drawn_on t new area m) part
 part_on t new area m part h = record {
-  inside = record {
-    alive = subst (λ (b : Bool). IsTrue b) (sym (live_on t part.target new area m)) h.inside.alive;
-    rect = subst (LiesIn part.rect) (sym (size_on t part.target new area m)) h.inside.rect;
-    points = h.inside.points;
-  };
+  live = subst (λ (b : Bool). IsTrue b) (sym (live_on t part.target new area m)) h.live;
   size = h.size;
   format = h.format ∙ sym (format_on t part.target new area m);
 }
@@ -61,6 +57,53 @@ pub part_after : (t : Target) (new : Change) (area : Area) (most : ℕ) (before 
     Draws t new area most before after d e answer → IsPart before.shown part → IsPart after.shown part
 part_after t new area most before after d e answer part h is =
     subst (λ (m : Shown). IsPart m part) (sym h.shown) (part_on t new h.more before.shown part is)
+
+-- and rectangles in their target
+
+in_target_on : (t q : Target) (new : Change) (area : Area) (m : Shown) (r : Rect) → InTarget m q r → InTarget (drawn_on t new area m) q r
+in_target_on t q new area m r h = record {
+  alive = subst (λ (b : Bool). IsTrue b) (sym (live_on t q new area m)) h.alive;
+  rect = subst (LiesIn r) (sym (size_on t q new area m)) h.rect;
+  points = h.points;
+}
+
+pub in_target_after : (t q : Target) (new : Change) (area : Area) (most : ℕ) (before after : PortState) (d e : Drawn) (answer : PortAnswer) (r : Rect) →
+    Draws t new area most before after d e answer → InTarget before.shown q r → InTarget after.shown q r
+in_target_after t q new area most before after d e answer r h is =
+    subst (λ (m : Shown). InTarget m q r) (sym h.shown) (in_target_on t q new h.more before.shown r is)
+
+-- so are the bands of one that is
+pub band_in_target : (m : Shown) (q : Target) (room : ℕ) (r : Rect) (k : ℕ) → k < band_count room r → InTarget m q r → InTarget m q (band_of room r k)
+band_in_target m q room r k lt h =
+    let w = band_within room r r k h.points (within_itself r h.points) lt in
+    record {
+      alive = h.alive;
+      rect = record {
+        left = omega (arith, ints, w.left, h.rect.left);
+        across = w.across;
+        right = omega (arith, ints, w.right, h.rect.right);
+        top = omega (arith, ints, w.top, h.rect.top);
+        down = w.down;
+        bottom = omega (arith, ints, w.bottom, h.rect.bottom);
+      };
+      points = band_points room r k h.points;
+    }
+
+-- a rectangle of a part moves into the bits that stand for the part
+
+edge_fits : (z o : ℤ) (n : ℕ) → o ≤ℤ z → z ≤ℤ (o +ℤ pos n) → n ≤ 4096 → FitsSigned w32 (z +ℤ (pos 0 -ℤ o))
+edge_fits z o n low high few = grind (arith, ints, low, high, few)
+
+pub part_moves : (size : Size) (outer r : Rect) → size ≡ sides_of outer → HasSides size → LiesWithin outer r → RectMoves (to_origin (corner_of outer)) r
+part_moves size outer r e sides h =
+    let wide : width_of outer ≤ 4096 = rw (← (ap (λ (s : Size). s.w) e)) sides.1 in
+    let high : height_of outer ≤ 4096 = rw (← (ap (λ (s : Size). s.h) e)) sides.3 in
+    record {
+      left = edge_fits r.left outer.left (width_of outer) h.left (omega (arith, ints, h.left, h.across, h.right)) wide;
+      top = edge_fits r.top outer.top (height_of outer) h.top (omega (arith, ints, h.top, h.down, h.bottom)) high;
+      right = edge_fits r.right outer.left (width_of outer) (omega (arith, ints, h.left, h.across)) (omega (arith, ints, h.left, h.across, h.right)) wide;
+      bottom = edge_fits r.bottom outer.top (height_of outer) (omega (arith, ints, h.top, h.down)) (omega (arith, ints, h.top, h.down, h.bottom)) high;
+    }
 
 -- bits from a target
 

@@ -5,4 +5,5 @@ pub mod Memory
 pub mod Inputs
 pub mod InnerBands
 pub mod InnerParts
+pub mod Copies
 pub mod InnerCopies

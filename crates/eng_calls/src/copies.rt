@@ -3,17 +3,18 @@
 ghost use Rattle.std.specs.Prelude.{◌≡◌, ◌≤◌, ◌≤ℤ◌, ◌↔◌, pos, IsTrue, length, option_map, IfOk, IfErr, IfSome};
 ghost use Rattle.geom_base.specs.declared.point.Point.{Point};
 ghost use Rattle.geom_base.specs.declared.port_answer.PortAnswer.TheVariants.{Done, NoMemory};
-ghost use Rattle.geom_base.specs.Points.{HasPoints, IsIn, LiesIn, moved_back, moved_rect, most_side, sides_of, whole, width_of};
+ghost use Rattle.geom_base.specs.Points.{HasPoints, IsIn, LiesIn, moved_rect, most_side, sides_of, whole, width_of};
 ghost use Rattle.surf_obj.specs.Object.{IsBlank};
-ghost use Rattle.brush_obj.specs.Calls.{PointMovesBack, held_of, source_point, target_of};
+ghost use Rattle.brush_obj.specs.Calls.{held_of, source_point, target_of};
 ghost use Rattle.copy_port.specs.Given.{HasCoordinates, first_of, held_in, picture_of_view};
 ghost use Rattle.copy_port.specs.Port.{InTarget, Keeps};
 ghost use Rattle.copy_port.specs.State.{IsLive, surface_of};
-ghost use Rattle.eng_calls.specs.InnerCopies.{FindsSources, HeldFor, IsCopyOf, LiesOnTarget, StandsIn, ended, to_source};
+ghost use Rattle.eng_calls.specs.Copies.{HeldFor, LiesOnTarget, ended};
+ghost use Rattle.eng_calls.specs.InnerCopies.{FindsSources, IsCopyOf, StandsIn, to_source};
 
 use crate::part::Part;
 use crate::transfer::fetch;
-use brush_obj::DrawCall;
+use brush_obj::{DrawCall, shifted_back};
 use copy_port::{CopyPort, TargetInfo};
 use geom_base::{Point, PortAnswer, Rect, Size, Target};
 use pix_format::Format;
@@ -78,7 +79,7 @@ fn is_on_side(from: &i32, to: &i32, count: u32) -> bool
 }
 
 /// Whether a source of a size has the points that belong to those of a rectangle.
-fn has_all(call: &DrawCall, size: Size, rect: &Rect) -> bool
+pub fn has_all(call: &DrawCall, size: Size, rect: &Rect) -> bool
     requires coordinates { HasCoordinates call.now }
     requires on_target { LiesOnTarget rect.now }
     ensures { IsTrue result → (p : Point) → IsIn p rect.now → IsIn (source_point call.now p) (whole size) }
@@ -181,18 +182,7 @@ fn to_source(call: &DrawCall) -> Point
     requires { HasCoordinates call.now }
     ensures { result ≡ to_source call.now }
 {
-    difference(&call.rect().corner(), &call.src())
-}
-
-/// How far a point is from another.
-fn difference(from: &Point, to: &Point) -> Point
-    requires { PointMovesBack to.now from.now }
-    ensures { result ≡ moved_back from.now to.now }
-{
-    Point {
-        x: to.x - from.x,
-        y: to.y - from.y,
-    }
+    shifted_back(call.src(), call.rect().corner())
 }
 
 /// What a source that is held has for the points of a frame: a copy of the rectangle that has them; none where none is held, none is

@@ -19,9 +19,12 @@ mod on_copy;
 mod order;
 mod paint;
 mod part;
+mod storing;
+mod straight;
 mod transfer;
 
 pub use blt::eng_bit_blt;
+pub use copies::{PartCopy, held_part};
 pub use copy::eng_copy_bits;
 pub use draw::eng_draw;
 pub use draws::steps_are_one;

@@ -1,21 +1,19 @@
 //! Drawing through a port.
 
-ghost use Rattle.std.specs.Prelude.{◌≡◌, ◌+◌, ◌*◌, ◌≤◌, length, replicate, IfOk, OnOk, OnErr};
-ghost use Rattle.std.specs.List.{All};
+ghost use Rattle.std.specs.Prelude.{◌≡◌, ◌*◌, ◌≤◌, length, replicate, IfOk};
 ghost use Rattle.geom_base.specs.Points.{HasPoints, is_in_some, width_of};
 ghost use Rattle.brush_obj.specs.declared.draw_call.DrawCall.TheVariants as calls;
 ghost use Rattle.copy_port.specs.Given.{CanDraw, asked_of, given_blt, given_copy, given_paint};
 ghost use Rattle.copy_port.specs.Port.{Draws};
 ghost use Rattle.eng_calls.specs.Inputs.{given_of};
-ghost use Rattle.eng_calls.specs.InnerBands.{bands_of};
-ghost use Rattle.eng_calls.specs.InnerCopies.{LiesOnTarget};
+ghost use Rattle.eng_calls.specs.Copies.{LiesOnTarget};
 
-use crate::bands::bands_of;
 use crate::framed::Framed;
 use crate::inputs::Inputs;
 use crate::on_copy::drawn_copy;
 use crate::part::Part;
-use crate::transfer::store;
+use crate::storing::store_all;
+use crate::straight::{source_place, straight_source};
 use brush_obj::{BltCall, BrushObj, CopyCall, DrawCall, PaintCall};
 use clip_obj::ClipObj;
 use copy_port::CopyPort;
@@ -24,38 +22,6 @@ use pix_format::{ColourTable, XlateObj};
 use region::extents_of;
 use std::alloc::{AllocError, Global};
 use surf_obj::LentView;
-
-/// Makes room for the entries of all parts of some rectangles, beside what is left of the room that there is when so many entries for each
-/// rectangle are taken.
-fn reserve_bands(
-    drawn: &mut DrawnList,
-    rects: &[Rect],
-    room: usize,
-    cuts: u32,
-) -> Result<(), AllocError>
-    requires { cuts * length rects.now ≤ drawn.old.spare }
-    ensures rects { drawn.new.rects ≡ drawn.old.rects }
-    ensures kept { drawn.old.spare ≤ drawn.new.spare }
-    ensures enough { OnOk result (cuts * bands_of room rects.now ≤ drawn.new.spare) }
-    ensures left { OnOk result (drawn.old.spare + cuts * bands_of room rects.now ≤ drawn.new.spare + cuts * length rects.now) }
-    ensures err { OnErr result (drawn.new ≡ drawn.old) }
-{
-    let bands = match bands_of(rects, room) {
-        Some(bands) => bands,
-        None => return Err(AllocError),
-    };
-    if bands == rects.len() as u64 {
-        return Ok(());
-    }
-    let needed = match bands.checked_mul(u64::from(cuts)) {
-        Some(needed) => needed,
-        None => return Err(AllocError),
-    };
-    match needed.checked_add(drawn.spare() as u64) {
-        Some(entries) => drawn.reserve(entries as usize),
-        None => Err(AllocError),
-    }
-}
 
 /// How many values there is to be room for: those of a rectangle, or of a row of it at least.
 fn room_for(rect: &Rect) -> usize
@@ -100,23 +66,25 @@ pub fn eng_draw_managed<P: CopyPort>(
         Ok(room) => room,
         Err(_) => return PortAnswer::NoMemory,
     };
+    if let Some(source) = straight_source(call, inputs, &frame) {
+        let part = Part {
+            target: call.target(),
+            rect: source_place(call, source.size()),
+            layout: source.layout(),
+        };
+        return store_all(port, &part, rects, source.bits(), &mut room, drawn);
+    }
     let framed = Framed { clip, frame };
     let copy = match drawn_copy(alloc, port, call, inputs, &framed, &mut room) {
         Ok(copy) => copy,
         Err(answer) => return answer,
     };
-    let spare = drawn.spare();
-    if reserve_bands(drawn, rects, room.len(), port.max_cuts()).is_err() {
-        return PortAnswer::NoMemory;
-    }
     let part = Part {
         target: call.target(),
         rect: frame,
         layout: copy.layout(),
     };
-    let answer = store(port, &part, rects, copy.bits(), &mut room, drawn);
-    drawn.give_back(spare);
-    answer
+    store_all(port, &part, rects, copy.bits(), &mut room, drawn)
 }
 
 /// Draws a raster operation through a port: `eng_draw_managed` of it.

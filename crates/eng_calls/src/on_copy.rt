@@ -1,6 +1,6 @@
 //! Calls on the copy of a part of their target.
 
-ghost use Rattle.std.specs.Prelude.{◌≡◌, ◌≤◌, ◌≤ℤ◌, pos, None, All, OnOk, IfOk, IfErr, length, map};
+ghost use Rattle.std.specs.Prelude.{◌≡◌, ◌≤◌, None, All, OnOk, IfOk, IfErr, length, map};
 ghost use Rattle.geom_base.specs.declared.port_answer.PortAnswer.TheVariants.{Done};
 ghost use Rattle.geom_base.specs.Points.{LiesIn, corner_of, is_in_some, moved_rect, sides_of, width_of};
 ghost use Rattle.geom_base.specs.Step.{redrawn};
@@ -11,7 +11,8 @@ ghost use Rattle.copy_port.specs.Given.{CanDraw, asked_of};
 ghost use Rattle.copy_port.specs.Port.{Keeps};
 ghost use Rattle.copy_port.specs.State.{surface_of};
 ghost use Rattle.eng_calls.specs.Inputs.{Suits, drawn_with, given_of};
-ghost use Rattle.eng_calls.specs.InnerCopies.{Frames, IsDrawnCopy, IsLentAs, LiesOnTarget, begins_at, ended};
+ghost use Rattle.eng_calls.specs.Copies.{LiesOnTarget, begins_at, ended};
+ghost use Rattle.eng_calls.specs.InnerCopies.{Frames, IsDrawnCopy, IsLentAs};
 ghost use Rattle.eng_calls.specs.declared.inputs.Inputs.{Inputs};
 
 use crate::copies::{PartCopy, held_part, stand_in};
@@ -19,7 +20,7 @@ use crate::draw::eng_draw;
 use crate::framed::Framed;
 use crate::inputs::Inputs;
 use brush_obj::{DrawCall, calls_move};
-use clip_obj::ClipObj;
+use clip_obj::{ClipObj, origin_from};
 use copy_port::CopyPort;
 use geom_base::{Point, PortAnswer};
 use std::alloc::{AllocError, Global};
@@ -53,18 +54,6 @@ fn draw_on_copy(
     let mut clip = framed.clip.seen_from(alloc, framed.frame, corner)?;
     let call = call.shifted(origin_from(&corner));
     draw_seen(alloc, pixels, &call, inputs, &mut clip)
-}
-
-/// Where 0 0 is, seen from a point of a target.
-fn origin_from(corner: &Point) -> Point
-    requires column { pos 0 ≤ℤ corner.now.x }
-    requires row { pos 0 ≤ℤ corner.now.y }
-    ensures { result ≡ to_origin corner.now }
-{
-    Point {
-        x: 0 - corner.x,
-        y: 0 - corner.y,
-    }
 }
 
 /// Draws a call that holds no source on a surface, in the rectangles of a clip that lies in it.

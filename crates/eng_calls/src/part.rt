@@ -3,7 +3,7 @@
 use geom_base::{Rect, Target};
 use surf_obj::Layout;
 
-/// A rectangle of a target, and how its pixels lie in bits of their own.
+/// A rectangle beside or on a target, and how its pixels lie in bits of their own.
 #[derive(Clone, Copy)]
 pub struct Part {
     pub target: Target,

@@ -1,35 +1,23 @@
 //! Rectangles between a port and bits.
 
-ghost use Rattle.std.specs.Prelude.{◌≡◌, ◌*◌, ◌≤◌, ◌≤ℤ◌, pos, length};
+ghost use Rattle.std.specs.Prelude.{◌≡◌, ◌*◌, ◌≤◌, length};
 ghost use Rattle.std.specs.List.{All};
-ghost use Rattle.geom_base.specs.Points.{HasPoints, corner_of, height_of, is_in, is_in_some, moved_rect, width_of};
+ghost use Rattle.geom_base.specs.Points.{corner_of, height_of, is_in, is_in_some, moved_rect, width_of};
 ghost use Rattle.geom_base.specs.Step.{redrawn};
 ghost use Rattle.surf_obj.specs.Layout.{Holds, values_in};
 ghost use Rattle.surf_obj.specs.Rects.{as_in_at, rect_values};
 ghost use Rattle.clip_obj.specs.Clip.{LiesWithin, to_origin};
-ghost use Rattle.copy_port.specs.Port.{Draws, IfDone, Keeps};
+ghost use Rattle.copy_port.specs.Port.{Draws, IfDone, InTarget, Keeps};
 ghost use Rattle.copy_port.specs.State.{surface_of};
 ghost use Rattle.eng_calls.specs.InnerBands.{band_count, bands_of};
 ghost use Rattle.eng_calls.specs.InnerParts.{IsPart};
 
 use crate::bands::{band_count, band_of, band_size};
 use crate::part::Part;
+use clip_obj::seen_from;
 use copy_port::CopyPort;
-use geom_base::{DrawnList, Point, PortAnswer, Rect};
+use geom_base::{DrawnList, PortAnswer, Rect};
 use surf_obj::{read_rect_on, write_rect_on};
-
-/// A rectangle as it lies in bits that stand for a part.
-fn seen_in(part: &Rect, rect: Rect) -> Rect
-    requires left { pos 0 ≤ℤ part.now.left }
-    requires top { pos 0 ≤ℤ part.now.top }
-    requires within { LiesWithin part.now rect }
-    ensures { result ≡ moved_rect rect (to_origin (corner_of part.now)) }
-{
-    rect.shifted(Point {
-        x: -part.left,
-        y: -part.top,
-    })
-}
 
 /// Reads a rectangle of a part of a target onto bits, by way of room for its values.
 fn fetch_rect<P: CopyPort>(
@@ -40,7 +28,7 @@ fn fetch_rect<P: CopyPort>(
     values: &mut [u32],
 ) -> PortAnswer
     requires part { IsPart (P.state port.old).shown part.now }
-    requires points { HasPoints rect.now }
+    requires inside { InTarget (P.state port.old).shown part.now.target rect.now }
     requires within { LiesWithin part.now.rect rect.now }
     requires holds { Holds part.now.layout (length bits.old) }
     requires count { length values.old ≡ width_of rect.now * height_of rect.now }
@@ -54,7 +42,12 @@ fn fetch_rect<P: CopyPort>(
         PortAnswer::Done => {}
         other => return other,
     }
-    write_rect_on(bits, part.layout, &seen_in(&part.rect, *rect), values);
+    write_rect_on(
+        bits,
+        part.layout,
+        &seen_from(&part.rect.corner(), rect),
+        values,
+    );
     PortAnswer::Done
 }
 
@@ -66,6 +59,7 @@ pub fn fetch<P: CopyPort>(
     room: &mut [u32],
 ) -> PortAnswer
     requires part { IsPart (P.state port.old).shown part.now }
+    requires inside { InTarget (P.state port.old).shown part.now.target part.now.rect }
     requires holds { Holds part.now.layout (length bits.old) }
     requires room { width_of part.now.rect ≤ length room.old }
     ensures keeps { Keeps (P.state port.old) (P.state port.new) result }
@@ -95,7 +89,7 @@ fn store_band<P: CopyPort>(
     drawn: &mut DrawnList,
 ) -> PortAnswer
     requires part { IsPart (P.state port.old).shown part.now }
-    requires points { HasPoints rect.now }
+    requires inside { InTarget (P.state port.old).shown part.now.target rect.now }
     requires within { LiesWithin part.now.rect rect.now }
     requires holds { Holds part.now.layout (length bits.now) }
     requires count { length values.old ≡ width_of rect.now * height_of rect.now }
@@ -103,7 +97,12 @@ fn store_band<P: CopyPort>(
     ensures { Draws part.now.target (as_in_at (corner_of part.now.rect) part.now.layout.size (values_in part.now.layout bits.now))
         (λ p. is_in p rect.now) (P.state port.old).rest.cuts (P.state port.old) (P.state port.new) drawn.old drawn.new result }
 {
-    read_rect_on(bits, part.layout, &seen_in(&part.rect, *rect), values);
+    read_rect_on(
+        bits,
+        part.layout,
+        &seen_from(&part.rect.corner(), rect),
+        values,
+    );
     port.write_rect(part.target, *rect, values, drawn)
 }
 
@@ -117,10 +116,10 @@ fn store_rect<P: CopyPort>(
     drawn: &mut DrawnList,
 ) -> PortAnswer
     requires part { IsPart (P.state port.old).shown part.now }
-    requires points { HasPoints rect.now }
+    requires inside { InTarget (P.state port.old).shown part.now.target rect.now }
     requires within { LiesWithin part.now.rect rect.now }
     requires holds { Holds part.now.layout (length bits.now) }
-    requires room { width_of part.now.rect ≤ length room.old }
+    requires room { width_of rect.now ≤ length room.old }
     requires spare { (P.state port.old).rest.cuts * band_count (length room.old) rect.now ≤ drawn.old.spare }
     ensures { Draws part.now.target (as_in_at (corner_of part.now.rect) part.now.layout.size (values_in part.now.layout bits.now))
         (λ p. is_in p rect.now) ((P.state port.old).rest.cuts * band_count (length room.old) rect.now)
@@ -149,10 +148,10 @@ pub fn store<P: CopyPort>(
     drawn: &mut DrawnList,
 ) -> PortAnswer
     requires part { IsPart (P.state port.old).shown part.now }
-    requires points { All HasPoints rects.now }
+    requires inside { All (InTarget (P.state port.old).shown part.now.target) rects.now }
     requires within { All (LiesWithin part.now.rect) rects.now }
     requires holds { Holds part.now.layout (length bits.now) }
-    requires room { width_of part.now.rect ≤ length room.old }
+    requires room { All (λ r. width_of r ≤ length room.old) rects.now }
     requires spare { (P.state port.old).rest.cuts * bands_of (length room.old) rects.now ≤ drawn.old.spare }
     ensures { Draws part.now.target (as_in_at (corner_of part.now.rect) part.now.layout.size (values_in part.now.layout bits.now))
         (λ p. is_in_some p rects.now) ((P.state port.old).rest.cuts * bands_of (length room.old) rects.now)

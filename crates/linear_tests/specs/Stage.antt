@@ -9,7 +9,7 @@ use Rattle.copy_port.specs.declared.words.Mode.{Mode}
 use Rattle.ddi_driver.specs.Modes.{IsMode}
 
 abbrev pub sides : Size
-sides = record { w = 4; h = 2 }
+sides = record { w = 6; h = 4 }
 
 -- a mode with a screen of these sides, with values of a byte and the colours that these have where none are given
 pub record IsStageMode (m : Mode) : Type 0 where

@@ -1,10 +1,16 @@
-//! What the linear driver is tested on; and the tests: with nothing taken, with every second call declined, and with each call of the device
-//! failing in turn.
+//! What a driver on the shelf is tested on: a screen in memory, and calls of each kind that are asked of its hooks, or routed.
+//!
+//! The tests: the pixels are the same whoever draws, and where a call of the device fails exactly what is reported was drawn.
 #![tactic(auto)]
 
+mod calls;
+mod props;
 mod stage;
 
-pub use stage::{WHITE, enabled, paint, pixels, synchronised};
+pub use calls::{Answer, Drawing, Kind, Way, draw};
+pub use stage::{enable_anew, pixels};
 
+#[cfg(test)]
+mod expected;
 #[cfg(test)]
 mod tests;

@@ -1,41 +1,24 @@
-//! A small screen in memory.
+//! A small screen in memory, that of a driver on the shelf.
 
-ghost use Rattle.std.specs.Prelude.{◌≤◌, IfOk};
+ghost use Rattle.std.specs.Prelude.{◌≤◌, IfOk, OnOk};
 ghost use Rattle.ddi_driver.specs.Modes.{AreModeNumbers};
 ghost use Rattle.linear_tests.specs.Stage.{IsStage, IsStageMode};
 
-use bitflags::Flags;
-use brush_obj::{BrushObj, PaintCall};
-use clip_obj::ClipObj;
-use copy_port::{Classes, CopyPort, Hooks, Mode, Pictured};
-use ddi_driver::{DisplayDriver, EnableRefusal, HookAnswer};
-use dev_ports::MemLinear;
-use drv_linear::LinearDriver;
-use geom_base::{Counts, DrawnList, Point, PortAnswer, Rect, Size, Target};
-use pix_format::{ColourTable, Format, Rgb};
-use rop_mix::Mix;
+use crate::props::{SIZE, WHOLE};
+use copy_port::{Classes, Hooks, Mode, Pictured};
+use ddi_driver::{DriverPort, EnableRefusal, disable, enable, read_port};
+use geom_base::{Counts, PortAnswer, Target};
+use pix_format::{ColourTable, Format};
 use std::alloc::{AllocError, Global};
 
-/// The colour of the brush, whose value is 255.
-pub const WHITE: Rgb = Rgb {
-    r: 0xff,
-    g: 0xff,
-    b: 0xff,
-};
-
-/// The size of the screen.
-const SIZE: Size = Size { w: 4, h: 2 };
-
-/// All its points.
-const WHOLE: Rect = Rect {
-    left: 0,
-    top: 0,
-    right: 4,
-    bottom: 2,
-};
-
-/// A mode with that screen, in which all calls are hooked.
-fn mode(alloc: Global, takes: Classes, decline: u32, faults: Counts) -> Result<Mode, AllocError>
+/// A mode with that screen.
+fn mode(
+    alloc: Global,
+    hooks: Hooks,
+    takes: Classes,
+    decline: u32,
+    faults: Counts,
+) -> Result<Mode, AllocError>
     requires decline { decline ≤ 1000000 }
     requires faults { AreModeNumbers faults }
     ensures { IfOk result IsStageMode }
@@ -45,10 +28,10 @@ fn mode(alloc: Global, takes: Classes, decline: u32, faults: Counts) -> Result<M
         size: SIZE,
         format: Format::B8,
         table,
-        hooks: Hooks::all(),
+        hooks,
         takes,
         decline,
-        bank: 4,
+        bank: 8,
         ring: 64,
         spare: 0,
         pace: Counts::of(Vec::new(alloc)),
@@ -56,64 +39,34 @@ fn mode(alloc: Global, takes: Classes, decline: u32, faults: Counts) -> Result<M
     })
 }
 
-/// A driver that is enabled in such a mode, over a device in memory.
+/// Enables a driver anew in such a mode.
 ///
 /// # Errors
 ///
-/// `Fault` where the device fails at once; `NoMemory`.
-pub fn enabled(
+/// As `enable`.
+pub fn enable_anew(
     alloc: Global,
+    driver: &mut DriverPort,
+    hooks: Hooks,
     takes: Classes,
     decline: u32,
     faults: Counts,
-) -> Result<LinearDriver<MemLinear>, EnableRefusal>
+) -> Result<(), EnableRefusal>
     requires decline { decline ≤ 1000000 }
     requires faults { AreModeNumbers faults }
-    ensures { IfOk result (λ d. IsStage (⟦<LinearDriver<MemLinear> as Pictured>⟧.state d)) }
+    ensures { OnOk result (IsStage (⟦<DriverPort as Pictured>⟧.state driver.new)) }
 {
-    let mode = mode(alloc, takes, decline, faults)?;
-    let mut driver = LinearDriver::new(alloc, MemLinear::new(alloc));
-    driver.enable_pdev(alloc, &mode)?;
-    Ok(driver)
-}
-
-/// Paints the whole screen in white.
-pub fn paint(alloc: Global, driver: &mut LinearDriver<MemLinear>) -> Result<HookAnswer, AllocError>
-    requires stage { IsStage (⟦<LinearDriver<MemLinear> as Pictured>⟧.state driver.old) }
-    ensures stage { IsStage (⟦<LinearDriver<MemLinear> as Pictured>⟧.state driver.new) }
-{
-    let table = ColourTable::standard(alloc, Format::B8)?;
-    let mut brush = BrushObj::solid(alloc, WHITE);
-    let mut clip = ClipObj::build(alloc, None, WHOLE)?;
-    let mut drawn = DrawnList::new(alloc);
-    drawn.reserve(clip.count())?;
-    let mix = match Mix::of(13) {
-        Some(mix) => mix,
-        None => return Err(AllocError),
-    };
-    let call = PaintCall {
-        target: Target::Screen,
-        rect: WHOLE,
-        origin: Point { x: 0, y: 0 },
-        mix,
-    };
-    Ok(driver.paint(alloc, &call, &table, &mut brush, &mut clip, &mut drawn))
+    let mode = mode(alloc, hooks, takes, decline, faults)?;
+    disable(driver);
+    enable(alloc, driver, &mode)
 }
 
 /// Reads the whole screen.
-pub fn pixels(driver: &mut LinearDriver<MemLinear>) -> (PortAnswer, [u32; 8])
-    requires stage { IsStage (⟦<LinearDriver<MemLinear> as Pictured>⟧.state driver.old) }
-    ensures stage { IsStage (⟦<LinearDriver<MemLinear> as Pictured>⟧.state driver.new) }
+pub fn pixels(driver: &mut DriverPort) -> (PortAnswer, [u32; 24])
+    requires stage { IsStage (⟦<DriverPort as Pictured>⟧.state driver.old) }
+    ensures stage { IsStage (⟦<DriverPort as Pictured>⟧.state driver.new) }
 {
-    let mut values = [0; 8];
-    let answer = driver.read_rect(Target::Screen, WHOLE, &mut values);
+    let mut values = [0; 24];
+    let answer = read_port(driver, Target::Screen, WHOLE, &mut values);
     (answer, values)
-}
-
-/// Waits for the device.
-pub fn synchronised(driver: &mut LinearDriver<MemLinear>) -> PortAnswer
-    requires stage { IsStage (⟦<LinearDriver<MemLinear> as Pictured>⟧.state driver.old) }
-    ensures stage { IsStage (⟦<LinearDriver<MemLinear> as Pictured>⟧.state driver.new) }
-{
-    driver.synchronise(Target::Screen, WHOLE)
 }

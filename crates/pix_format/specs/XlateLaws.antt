@@ -8,6 +8,7 @@ use Rattle.pix_format.specs.declared.rgb.Rgb.{Rgb}
 use Rattle.pix_format.specs.declared.format.Format.{Format}
 use Rattle.pix_format.specs.declared.format.Format.TheVariants.{B1, B4, B8, B555, B565, B24, B32}
 use Rattle.pix_format.specs.Translate.{number_of, same_colour, same_kind}
+use Rattle.pix_format.specs.Xlate.{Translation, translated}
 
 -- formats with one number are the same
 format_at : ℕ → Format
@@ -47,3 +48,7 @@ pub Decides-same_kind : (from : Format) (from_table : List Rgb) (to : Format) (t
 Decides-same_kind from from_table to to_table =
     Decides-and (number_of from == number_of to) (pointwise same_colour from_table to_table) (Decides-same_format from to)
     (pointwise_decides Decides-same_colour from_table to_table)
+
+-- a translation between surfaces of one format and table changes no value
+pub kept_values : (t : Translation) (v : ℕ) → (t.from ≡ t.to) × (t.from_table ≡ t.to_table) → translated t v ≡ v
+kept_values t v same = rw ((Decides-same_kind t.from t.from_table t.to t.to_table).1 same) refl

@@ -18,7 +18,8 @@ use Rattle.script_orders.specs.declared.orders.FaceOrder.{FaceOrder}
 use Rattle.script_orders.specs.declared.orders.FaceOrder.TheVariants.{Solid, Hatch, Pattern}
 use Rattle.script_orders.specs.declared.script_command.ScriptCommand.{ScriptCommand}
 use Rattle.script_orders.specs.declared.script_command.ScriptCommand.TheVariants.{Create, Delete, Brush, Draw, Dump, Sum, Nothing}
-use Rattle.script_orders.specs.Asked.{CanCreate, MaskIsOther, RowIsCopied}
+use Rattle.script_orders.specs.Asked.{CanCreate, HasNeeded, MaskIsOther, RowIsCopied}
+use Rattle.script_orders.specs.Places.{HasPlaces}
 
 -- a bitmap's size, and how its pixels are kept
 pub record Look : Type 0 where
@@ -69,7 +70,7 @@ BrushIsThere l uses.Nothing = Unit {0}
 BrushIsThere l (uses.Colour colour) = Unit {0}
 BrushIsThere l (uses.Made n) = n < l.brushes
 
--- a drawing names only what is there; no bitmap is its own mask, and a row of values is copied
+-- a drawing names all that its call needs, and only what is there; no bitmap is its own mask, a row of values is copied, and all coordinates are a script's
 pub record CanDraw (l : Live) (c : DeskCommand) : Type 0 where
   pub target : SpotIsThere l c.target
   pub source : FeedIsThere l c.target c.source
@@ -77,6 +78,8 @@ pub record CanDraw (l : Live) (c : DeskCommand) : Type 0 where
   pub other : MaskIsOther c.target c.mask
   pub brush : BrushIsThere l c.brush
   pub row : RowIsCopied c.source c.call
+  pub places : HasPlaces c.source c.call
+  pub needs : HasNeeded c.call c.source c.mask
 
 -- a pattern's bitmap is there, and no side of it is too long
 abbrev pub FaceIsThere : Live → FaceOrder → Type 0

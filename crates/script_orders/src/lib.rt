@@ -1,8 +1,9 @@
 //! What a script asks for: its commands in order, and the names of the bitmaps that it makes.
 //!
 //! `Asked` of `specs/Asked.antt` is the whole as a list, and `CanRun` of `specs/Live.antt` what the commands of an accepted script keep
-//! to: each names only what is there when its turn comes. A script's limits stand in `specs/Limits.antt`. A row of pixel values is drawn
-//! on the rectangle that `row_rect` of `specs/Rows.antt` gives.
+//! to: each names only what is there when its turn comes. A script's limits stand in `specs/Limits.antt`, the coordinates of its drawings
+//! in `specs/Places.antt`: they stay in range wherever a screen stands (`specs/PlaceLaws.antt`). A row of pixel values is drawn on the
+//! rectangle that `row_rect` of `specs/Rows.antt` gives.
 #![tactic(auto)]
 
 mod desk_command;

@@ -5,9 +5,12 @@ use Rattle.std.specs.Str.{bytes_eq}
 use Rattle.std.proofs.lemmas.List.{length-set, length_push, get_or-set_other, get_or_append_left, get_or_at}
 use Rattle.std.proofs.lemmas.Option.{none-some, same_Some}
 use Rattle.std.proofs.lemmas.Bool.{false≢true}
+use Rattle.std.proofs.lemmas.Int.{ints}
 use Rattle.std.proofs.lemmas.Slice.Eq.{bytes_eq-Decides}
 use Rattle.script_words.specs.Lines.{word_at}
 use Rattle.script_orders.specs.Live.{Live, Look, first_live}
+use Rattle.script_orders.specs.Places.{IsPlace}
+use Rattle.script_orders.specs.Rows.{zero_point}
 use Rattle.script_names.specs.declared.entry.Bitmap.{Bitmap}
 use Rattle.script_names.specs.Names.{Name, NameMap, bitmap, brush, no_clip, screen, with_name, without_name}
 use Rattle.script_read.specs.InnerKnows.{LeadsTo, KnowsNames, Knows, look_of}
@@ -118,5 +121,14 @@ knows_nothing = record {
   brush_names = λ word n e. absurd (none-some (brush n) e);
 }
 
+zero_place : IsPlace zero_point
+zero_place = record {
+  across = record { least = omega (arith, ints); greatest = omega (arith, ints) };
+  down = record { least = omega (arith, ints); greatest = omega (arith, ints) };
+}
+
 pub knows_first : Knows first_reader_state first_live
-knows_first = with_other (codes "none") no_clip (λ b e. cc) (λ n e. cc) (with_other (codes "screen") screen (λ b e. cc) (λ n e. cc) knows_nothing)
+knows_first = (
+  with_other (codes "none") no_clip (λ b e. cc) (λ n e. cc) (with_other (codes "screen") screen (λ b e. cc) (λ n e. cc) knows_nothing),
+  zero_place,
+)

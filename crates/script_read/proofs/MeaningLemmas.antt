@@ -25,7 +25,7 @@ use Rattle.script_names.specs.Names.{table, region}
 use Rattle.script_read.specs.Commands.{Meaning, has_room, has_room_for, has_room_for_rects, create_in, keep_bitmap, keep_region, meaning_of}
 use Rattle.script_read.specs.Commands.{read_back, read_bitmap, read_blt, read_brush, read_brushorg, read_clip, read_copy, read_delete, read_dump}
 use Rattle.script_read.specs.Commands.{read_line, read_paint, read_pixels, read_region, read_sum, read_table, verb_among, all_verbs, count_fits}
-use Rattle.script_read.specs.Drawing.{blt_from, copy_from, has_operands, is_mono_mask, is_other, needed_mask}
+use Rattle.script_read.specs.Drawing.{blt_from, copy_from, feed_from, has_operands, is_mono_mask, is_other, needed_feed, needed_mask}
 use Rattle.script_read.specs.InnerKnows.{Knows, CanAsk, CanMean, IsKept}
 use Rattle.script_read.specs.Reading.{FirstRefusal, behind, followed, is_skipped, read_lines, read_text_line}
 use Rattle.script_read.specs.Regions.{named_region_in}
@@ -33,6 +33,7 @@ use Rattle.script_read.specs.State.{ReaderState, first_reader_state}
 use Rattle.script_read.specs.declared.verb.Verb.{Verb}
 use Rattle.script_read.specs.declared.verb.Verb.TheVariants as verbs
 use Rattle.script_read.proofs.KnowsLemmas.{knows_first, with_other, with_brush, with_bitmap, without_bitmap}
+use Rattle.script_read.proofs.OperandLemmas.{all_places, from_is_named, needed_mask_named, needed_source_named, operands_named, point_at, rect_at}
 use Rattle.script_read.proofs.ThereLemmas.{there, bitmap_named, spot_there, source_there, needed_there, feed_there, no_row, needed_no_row}
 use Rattle.script_read.proofs.ThereLemmas.{mask_kept, needed_kept, mask_there, mask_other, brush_there, with_there, face_there, named_there}
 use Rattle.script_read.proofs.ThereLemmas.{bitmap_there, IsAsked, create_asked, created}
@@ -47,7 +48,7 @@ back_can s l words h = if_read _ (colour_in (word_at words 1)) _ (λ colour e. (
 
 origin_can : LineCan read_brushorg
 unfolding read_brushorg
-origin_can s l words h = if_read _ (point_in words 1) _ (λ origin e. (tt, h))
+origin_can s l words h = if_read _ (point_in words 1) _ (λ origin e. (tt, (h.0, point_at words 1 e)))
 
 clip_can : LineCan read_clip
 unfolding read_clip
@@ -67,7 +68,7 @@ table_can s l words h =
     if_read _ (new_name s.names (word_at words 1)) _ (λ u e.
     if_read _ (each colour_in (drop 2 words)) _ (λ colours ec.
     if_asked _ (has_room s && nat_lt s.tables most_tables) _ _ (λ t.
-    (tt, with_other (word_at words 1) (table colours) (λ b k. cc) (λ n k. cc) h))))
+    (tt, (with_other (word_at words 1) (table colours) (λ b k. cc) (λ n k. cc) h.0, h.1)))))
 
 region_can : LineCan read_region
 unfolding read_region keep_region
@@ -75,7 +76,7 @@ region_can s l words h =
     if_read _ (named_region_in s.names words) _ (λ rects e.
     if_asked (CanAsk l) (has_room_for_rects s (length rects)) _ _ (λ t.
     if_asked (CanAsk l) (nat_le (length rects) most_rects) _ _ (λ u.
-    (tt, with_other (word_at words 1) (region rects) (λ b k. cc) (λ n k. cc) h))))
+    (tt, (with_other (word_at words 1) (region rects) (λ b k. cc) (λ n k. cc) h.0, h.1)))))
 
 brush_can : LineCan read_brush
 unfolding read_brush
@@ -84,7 +85,7 @@ brush_can s l words h =
     if_read _ (face_in s.names words) _ (λ face ef.
     if_asked _ (face.fits && has_room s && nat_lt s.brushes most_brushes) _ _ (λ t.
     let fits = (and_parts face.fits _ (and_parts _ _ t).0).0 in
-    ((IfOk-at_ok (λ face. face.fits ≡ true → FaceIsThere l face.face) ef (face_there s words h) fits, h.brushes_made), with_brush (word_at words 1) h))))
+    ((IfOk-at_ok (λ face. face.fits ≡ true → FaceIsThere l face.face) ef (face_there s words h) fits, h.0.brushes_made), (with_brush (word_at words 1) h.0, h.1)))))
 
 bitmap_can : LineCan read_bitmap
 unfolding read_bitmap keep_bitmap
@@ -92,14 +93,14 @@ bitmap_can s l words h =
     if_read _ (create_in s.names (length s.made) words) _ (λ o e.
     let asked = IfOk-at_ok (IsAsked (length s.made)) e (create_asked s.names (length s.made) words) in
     if_asked _ (has_room_for s o.size) _ _ (λ t.
-    ((created s (length s.made) o asked t, asked.numbered ∙ h.bitmaps_made), with_bitmap (word_at words 1) _ asked.numbered h)))
+    ((created s (length s.made) o asked t, asked.numbered ∙ h.0.bitmaps_made), (with_bitmap (word_at words 1) _ asked.numbered h.0, h.1))))
 
 delete_can : LineCan read_delete
 unfolding read_delete
 delete_can s l words h =
     let name = word_at words 1 in
     if_read _ (bitmap_in s.names name) _ (λ b e.
-    (there l b _ (IfOk-at_ok (IsKept l) e (bitmap_there s name h)) tt, without_bitmap name b (bitmap_named s.names name e) h))
+    (there l b _ (IfOk-at_ok (IsKept l) e (bitmap_there s name h)) tt, (without_bitmap name b (bitmap_named s.names name e) h.0, h.1)))
 
 copy_can : LineCan read_copy
 unfolding read_copy
@@ -116,6 +117,8 @@ copy_can s l words h =
         other = mask_other target None refl;
         brush = tt;
         row = no_row source (calls.Copy (copy_from rect src));
+        places = all_places (feed_from source) (calls.Copy (copy_from rect src)) (rect_at words 2 er t, point_at words 7 ep);
+        needs = from_is_named source;
       },
       h,
     ))))))
@@ -135,6 +138,8 @@ paint_can s l words h =
         other = mask_other target None refl;
         brush = IfOk-at_ok (BrushIsThere l) ew (brush_there s (word_at words 6) h);
         row = tt;
+        places = (rect_at words 2 er t, h.1);
+        needs = tt;
       },
       h,
     ))))))
@@ -153,6 +158,8 @@ pixels_can s l words h =
         other = tt;
         brush = tt;
         row = (refl, refl);
+        places = tt;
+        needs = λ e. cc;
       },
       h,
     ))))
@@ -169,7 +176,8 @@ blt_can s l words h =
     if_read _ (brush_or_none s.names (word_at words 12)) _ (λ with ew.
     if_read _ (hexadecimal_in 4 (word_at words 13)) _ (λ code ec.
     if_asked _ (is_well_ordered rect) _ _ (λ t.
-    if_asked _ (has_operands code source mask with) _ _ (λ t.
+    if_asked _ (has_operands code source mask with) _ _ (λ all.
+    let named = operands_named code source mask with all in
     let bits = needed_mask (mask_needed code) mask in
     let kept = needed_kept l (mask_needed code) mask (IfOk-at_ok (λ mask. IfSome mask (IsKept l)) em (mask_kept s (word_at words 9) h)) in
     if_asked _ (is_mono_mask bits) _ _ (λ mono.
@@ -182,6 +190,9 @@ blt_can s l words h =
         other = mask_other target bits other;
         brush = IfOk-at_ok (BrushIsThere l) ew (with_there s (word_at words 12) h);
         row = needed_no_row (source_needed code) source (calls.Blt (blt_from rect src at s.origin code));
+        places = all_places (needed_feed (source_needed code) source) (calls.Blt (blt_from rect src at s.origin code))
+            (rect_at words 2 er t, point_at words 7 ep, point_at words 10 ea, h.1);
+        needs = (needed_source_named (source_needed code) source named.0, needed_mask_named (mask_needed code) mask named.1);
       },
       h,
     )))))))))))))
@@ -241,7 +252,7 @@ read_nothing = record { live = first_live; knows = knows_first; few = omega arit
 
 -- no more bitmaps were made than commands are read
 pub made_few : {s : ReaderState} {n : ℕ} → HasRead s n → length s.made ≤ n
-made_few h = omega (arith, h.knows.bitmaps_made, h.few)
+made_few h = omega (arith, h.knows.0.bitmaps_made, h.few)
 
 -- one more line
 line_reads : (commands n : ℕ) (s : ReaderState) (line : List ℕ) → HasRead s n → IfOk (read_text_line commands s line) (λ x. HasRead x.1 (n + length x.0))

@@ -30,10 +30,10 @@ use Rattle.script_read.specs.InnerReading.{FindsRegion}
 use Rattle.script_read.specs.State.{ReaderState}
 
 -- coordinates of rectangles are coordinates of edges
-edge : (z : ℤ) → IsCoordinate z → IsEdge z
+pub edge : (z : ℤ) → IsCoordinate z → IsEdge z
 edge z h = record { least = h.0; greatest = h.1 }
 
-has_all : (r : Rect) → AreCoordinates r → HasEdges r
+pub has_all : (r : Rect) → AreCoordinates r → HasEdges r
 has_all r h = record { left = edge r.left h.left; top = edge r.top h.top; right = edge r.right h.right; bottom = edge r.bottom h.bottom }
 
 pub within_coordinates : (rects : List Rect) → All AreCoordinates rects → Within rects

@@ -39,7 +39,7 @@ kept l (Some (bitmap b)) h = h b refl
 kept l o h = tt
 
 pub bitmap_there : (s : ReaderState) {l : Live} (word : List ℕ) → Knows s l → IfOk (bitmap_in s.names word) (IsKept l)
-bitmap_there s {l} word h = kept l (s.names word) (λ b e. (h.bitmap_names word b e).there)
+bitmap_there s {l} word h = kept l (s.names word) (λ b e. (h.0.bitmap_names word b e).there)
 
 is_bitmap_name : (o : Option Name) → IfOk (bitmap_of o) (λ b. o ≡ Some (bitmap b))
 is_bitmap_name (Some (bitmap b)) = refl
@@ -55,7 +55,7 @@ kept_spot l (Some (bitmap b)) h = there l b Any (h b refl) tt
 kept_spot l o h = tt
 
 pub spot_there : (s : ReaderState) {l : Live} (word : List ℕ) → Knows s l → IfOk (spot_in s.names word) (SpotIsThere l)
-spot_there s {l} word h = kept_spot l (s.names word) (λ b e. (h.bitmap_names word b e).there)
+spot_there s {l} word h = kept_spot l (s.names word) (λ b e. (h.0.bitmap_names word b e).there)
 
 -- a source
 pub feed_there : (l : Live) (target spot : Spot) → SpotIsThere l spot → FeedIsThere l target (feed_from spot)
@@ -108,7 +108,7 @@ made_brush l o h = tt
 pub brush_there : (s : ReaderState) {l : Live} (word : List ℕ) → Knows s l → IfOk (brush_in s.names word) (BrushIsThere l)
 brush_there s {l} word h = if_either _ (slice_index word 0 == 35) _ _
     (λ t. if_read _ (colour_in (drop 1 word)) _ (λ colour e. tt))
-    (λ t. made_brush l (s.names word) (h.brush_names word))
+    (λ t. made_brush l (s.names word) (h.0.brush_names word))
 
 pub with_there : (s : ReaderState) {l : Live} (word : List ℕ) → Knows s l → IfOk (brush_or_none s.names word) (BrushIsThere l)
 with_there s word h = if_either _ (is_dash word) _ _ (λ t. tt) (λ t. brush_there s word h)

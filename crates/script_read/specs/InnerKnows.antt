@@ -3,6 +3,7 @@ use Rattle.std.specs.Prelude.{◌≡◌, ◌<◌, ℕ, List, length, Some, IfOk}
 use Rattle.script_words.specs.Lines.{word_at}
 use Rattle.script_orders.specs.declared.script_command.ScriptCommand.{ScriptCommand}
 use Rattle.script_orders.specs.Live.{Live, Look, look_at, CanDo, after}
+use Rattle.script_orders.specs.Places.{IsPlace}
 use Rattle.script_names.specs.declared.entry.Bitmap.{Bitmap}
 use Rattle.script_names.specs.Names.{NameMap, bitmap, brush}
 use Rattle.script_read.specs.Commands.{Meaning}
@@ -27,9 +28,9 @@ pub record KnowsNames (names : NameMap) (made : List (List ℕ)) (brushes : ℕ)
   pub bitmap_names : (word : List ℕ) (b : Bitmap) → names word ≡ Some (bitmap b) → LeadsTo made l word b
   pub brush_names : (word : List ℕ) (n : ℕ) → names word ≡ Some (brush n) → n < l.brushes
 
--- the reader knows what is there
+-- the reader knows what is there, and keeps an origin that is a script's point
 abbrev pub Knows : ReaderState → Live → Type 0
-Knows s l = KnowsNames s.names s.made s.brushes l
+Knows s l = KnowsNames s.names s.made s.brushes l × IsPlace s.origin
 
 -- a command can be done, and the reader knows what is there after it
 abbrev pub CanAsk : Live → ScriptCommand × ReaderState → Type 0

@@ -6,3 +6,4 @@ pub mod LineLaws
 pub mod Spelling
 pub mod SpellingLaws
 pub mod Places
+pub mod PlaceLaws

@@ -9,6 +9,10 @@ use Rattle.surf_obj.specs.declared.object.SurfObj.{SurfObj}
 abbrev pub stride_of : Format → ℕ → ℕ
 stride_of format w = (row_bytes format w + 3) / 4 * 4
 
+-- the layout of a size and a format in bytes of their own: the top row first
+abbrev pub padded : Size → Format → Layout
+padded size format = layout_from size format (stride_of format size.w) false
+
 abbrev pub object_layout : SurfObj → Layout
 object_layout s = s.layout
 
@@ -27,6 +31,6 @@ object_values s = values_in s.layout s.bits.items
 
 -- a new surface: the top row first, rows padded to four bytes, and all values 0
 pub record IsBlank (size : Size) (format : Format) (s : SurfObj) : Type 0 where
-  pub layout : object_layout s ≡ layout_from size format (stride_of format size.w) false
+  pub layout : object_layout s ≡ padded size format
   pub bytes : object_bytes s ≡ replicate (size.h * stride_of format size.w) 0
   pub values : object_values s ≡ replicate (size.w * size.h) 0

@@ -5,6 +5,7 @@ ghost use Rattle.geom_base.specs.Points.{most_side};
 ghost use Rattle.pix_format.specs.Value.{bits_of};
 ghost use Rattle.surf_obj.specs.InnerRuns.{IsWholePart};
 ghost use Rattle.surf_obj.specs.Layout.{layout_from, row_bytes, row_start, rows_of, delta_of};
+ghost use Rattle.surf_obj.specs.Object.{padded};
 
 use geom_base::Size;
 use pix_format::Format;
@@ -32,6 +33,22 @@ impl Layout {
             stride,
             bottom_up,
         }
+    }
+
+    /// The layout of a size and a format in bytes of their own: the top row first, each row padded to four bytes.
+    pub fn padded(size: Size, format: Format) -> Layout
+        requires { size.w ≤ most_side }
+        ensures { result ≡ padded size format }
+    {
+        let stride = (row_bytes(format, size.w) + 3) / 4 * 4;
+        Layout::new(size, format, stride, false)
+    }
+
+    /// How many bytes its rows take.
+    pub fn len(self) -> usize
+        ensures { result ≡ self.size.h * self.stride }
+    {
+        self.size.h as usize * self.stride as usize
     }
 
     /// The layout of so many of its rows, in the same bytes.

@@ -5,7 +5,7 @@ ghost use Rattle.std.specs.Borrow.{sem};
 ghost use Rattle.geom_base.specs.Points.{HasSides};
 ghost use Rattle.surf_obj.specs.Layout.{Holds};
 
-use crate::layout::{Layout, row_bytes};
+use crate::layout::Layout;
 use crate::lent::LentSurf;
 use crate::view::LentView;
 use geom_base::Size;
@@ -31,12 +31,9 @@ impl SurfObj {
         requires { HasSides size }
         ensures { IfOk result (IsBlank size format) }
     {
-        let stride = (row_bytes(format, size.w) + 3) / 4 * 4;
-        let bits = zeros(alloc, size.h as usize * stride as usize)?;
-        Ok(SurfObj {
-            bits,
-            layout: Layout::new(size, format, stride, false),
-        })
+        let layout = Layout::padded(size, format);
+        let bits = zeros(alloc, layout.len())?;
+        Ok(SurfObj { bits, layout })
     }
 
     /// Its width and height.

@@ -58,6 +58,7 @@ impl<'a> LentView<'a> {
 }
 
 impl LentView<'_> {
+    ghost use Rattle.geom_base.specs.declared.point.Point.{Point};
     ghost use Rattle.surf_obj.specs.View.{view_bytes, view_values, view_size, view_format, view_layout};
 
     /// Its width and height.
@@ -80,6 +81,15 @@ impl LentView<'_> {
         ensures holds { Holds result (length (view_bytes self.now)) }
     {
         self.layout
+    }
+
+    /// Its bytes.
+    pub fn bits(&self) -> &[u8]
+        ensures bits { result.now ≡ view_bytes self.now }
+        ensures fits { (p : Point) → IsIn p (whole (view_size self.now)) →
+            value_of_point (view_size self.now) (view_values self.now) p < 2 ^ bits_of (view_format self.now) }
+    {
+        self.bits
     }
 
     /// The signed distance in bytes from a row to the next one below.

@@ -1,4 +1,4 @@
-use Rattle.std.proofs.Common.{◌∙◌, ap, refl, sym, true≢false, None}
+use Rattle.std.proofs.Common.{refl, sym, true≢false}
 use Rattle.geom_base.specs.Points.{is_in}
 use Rattle.rop_mix.specs.Needs.{source_needed, pattern_needed}
 use Rattle.surf_obj.specs.Lent.{size_of, format_of, values_of}
@@ -6,7 +6,7 @@ use Rattle.brush_obj.specs.Calls.{new_of_blt, blt_operands, shown}
 use Rattle.blt_kernel.specs.InnerBoxes.{box_from}
 use Rattle.brush_obj.specs.Ink.{ink_at}
 use Rattle.blt_kernel.specs.Handed.{mask_of, source_of}
-use Rattle.blt_kernel.specs.InnerHanded.{shift_from, drawing_given}
+use Rattle.blt_kernel.specs.InnerHanded.{shift_from}
 use Rattle.blt_kernel.specs.InnerReadable.{drawn_readable}
 use Rattle.blt_kernel.proofs.BltLemmas.{blt_gives, no_source, no_mask, untouched_redrawn, source_translated, ink_fits}
 use Rattle.blt_kernel.proofs.KernelLemmas.{box_redrawn}

@@ -1,9 +1,6 @@
-use Rattle.std.proofs.Common.{◌≡◌, ◌*◌, length, take}
+use Rattle.std.proofs.Common.{◌≡◌, take}
 use Rattle.desk_run.specs.Texts.{sum_of}
 use Rattle.desk_run.proofs.sum.sum.Given as goal
 
-abbrev pub invariant-loop-y : goal.invariant-loop-y
-invariant-loop-y l = record {
-  places : length l.values ≡ l.canvas.size.w;
-  sum : l.sum ≡ sum_of (take (l.y * l.canvas.size.w) l.canvas.values);
-}
+abbrev pub invariant-loop-value : goal.invariant-loop-value
+invariant-loop-value l = l.sum ≡ sum_of (take l.value-index l.values)

@@ -2,7 +2,7 @@ use Rattle.std.proofs.Common.{◌∙◌, ap, length}
 use Rattle.surf_obj.specs.declared.layout.Layout.{Layout}
 use Rattle.brush_obj.specs.Calls.{held_of, target_of}
 use Rattle.copy_port.specs.State.{surface_of}
-use Rattle.eng_calls.specs.InnerCopies.{begins_at}
+use Rattle.eng_calls.specs.Copies.{begins_at}
 use Rattle.eng_calls.proofs.CopyStepLemmas.{drawn_on_copy}
 use Rattle.eng_calls.proofs.HeldLemmas.{frame_on_target, held_place, lent_place}
 use Rattle.eng_calls.proofs.SuitLemmas.{lent_moves, lent_suits}

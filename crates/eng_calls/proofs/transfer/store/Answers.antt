@@ -2,7 +2,7 @@ use Rattle.std.proofs.Common.{◌+◌, length, refl}
 use Rattle.geom_base.specs.Points.{corner_of, no_rect}
 use Rattle.surf_obj.specs.Layout.{values_in}
 use Rattle.copy_port.specs.Laws.{draws_nowhere}
-use Rattle.eng_calls.proofs.TransferLemmas.{next_rect, part_after, rect_spare, rect_stopped}
+use Rattle.eng_calls.proofs.TransferLemmas.{in_target_after, next_rect, part_after, rect_spare, rect_stopped}
 use Rattle.eng_calls.proofs.transfer.store.Goals as goal
 
 pub loop-i-init : goal.loop-i-init
@@ -10,6 +10,10 @@ loop-i-init g c = draws_nowhere _ _ _ _ _ _ (λ p. refl)
 
 pub store_rect-requires-clause-part : goal.store_rect-requires-clause-part
 store_rect-requires-clause-part g c = part_after _ _ _ _ _ _ _ _ _ c.args.part.now c.loop-i.invariant c.requires.part
+
+pub store_rect-requires-clause-inside : goal.store_rect-requires-clause-inside
+store_rect-requires-clause-inside g c =
+    in_target_after _ c.args.part.now.target _ _ _ _ _ _ _ _ _ c.loop-i.invariant (c.requires.inside c.loop-i.i no_rect c.loop-i-test.true)
 
 pub store_rect-requires-clause-spare : goal.store_rect-requires-clause-spare
 store_rect-requires-clause-spare g c =

@@ -1,4 +1,4 @@
-use Rattle.std.proofs.Common.{◌≡◌, ◌∙◌, ℕ, ap, sym, get_or}
+use Rattle.std.proofs.Common.{◌∙◌, ℕ, ap, sym, get_or}
 use Rattle.std.proofs.lemmas.Nat.{div-add-mod'}
 use Rattle.pix_format.specs.Translate.{convert}
 use Rattle.brush_obj.proofs.face.BrushFace.write_tile.Goals as goal

@@ -1,5 +1,4 @@
-use Rattle.std.proofs.Common.{◌≡◌, ◌∙◌, ◌*◌, length, sym, ap}
-use Rattle.geom_base.specs.declared.size.Size.{Size}
+use Rattle.std.proofs.Common.{◌∙◌}
 use Rattle.brush_obj.proofs.BrushLemmas.{rows_are_tiled}
 use Rattle.brush_obj.proofs.ink.Ink.made.Goals as goal
 

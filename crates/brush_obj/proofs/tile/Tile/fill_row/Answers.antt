@@ -1,4 +1,4 @@
-use Rattle.std.proofs.Common.{◌≡◌, ◌<◌, ◌%◌, ◌*◌, ◌^◌, ◌∙◌, ℕ, length, refl, rules, arith}
+use Rattle.std.proofs.Common.{◌<◌, ◌%◌, ◌^◌, ◌∙◌, ℕ, length, rules, arith}
 use Rattle.std.proofs.lemmas.List.{length-take}
 use Rattle.pix_format.specs.Value.{bits_of}
 use Rattle.brush_obj.proofs.RowLemmas.{All-taken, repeated_taken}

@@ -1,0 +1,3 @@
+pub mod Shelf
+pub mod Free
+pub mod FreeLaws

@@ -1,0 +1,194 @@
+//! A screen of the desk, and what a drawing asks of it.
+
+ghost use Rattle.std.specs.Prelude.{◌≡◌, ◌&&◌, ◌↔◌, IsTrue, IfNone, IfOk, IfSome, unwrap_or};
+ghost use Rattle.std.specs.Option.{option_copied};
+ghost use Rattle.geom_base.specs.declared.point.Point.{Point};
+ghost use Rattle.geom_base.specs.Points.{IsIn, LiesIn, whole};
+ghost use Rattle.brush_obj.specs.Calls.{reads_source, rect_of, source_point};
+ghost use Rattle.copy_port.specs.Given.{HasCoordinates};
+ghost use Rattle.script_orders.specs.Places.{IsPlaced};
+ghost use Rattle.script_orders.specs.declared.desk_command.Spot.TheVariants as spots;
+ghost use Rattle.desk_span.specs.InnerBeside.{stand_of};
+ghost use Rattle.desk_span.specs.InnerPieces.{FindsThere, IsPiece, aimed, piece_on, screen_call};
+ghost use Rattle.desk_span.specs.Desk.{translation};
+ghost use Rattle.desk_span.specs.InnerDrawing.{translation_for};
+ghost use Rattle.desk_span.specs.InnerRouted.{plate};
+ghost use Rattle.desk_span.specs.Meeting.{Reaches};
+
+use crate::canvas::Canvas;
+use crate::draw::{meets, region_of};
+use crate::others::is_own;
+use crate::place::ORIGIN;
+use brush_obj::{BltCall, CopyCall, DrawCall, PaintCall, shifted_back};
+use clip_obj::{origin_from, seen_from};
+use geom_base::{Point, Rect, Size, Target};
+use pix_format::{ColourTable, Format, Rgb, XlateObj};
+use script_orders::{DeskCommand, Feed};
+use std::alloc::{AllocError, Global};
+use std::marker::Model;
+
+/// A screen of the desk, which a driver of the shelf shows.
+#[derive(Drop)]
+pub struct Screen {
+    /// Where its driver stands on the shelf.
+    pub place: usize,
+    /// The point of the desk that its first point is.
+    pub at: Point,
+    pub size: Size,
+    pub format: Format,
+    /// The colours that its values stand for.
+    pub table: ColourTable,
+    /// The translation from it to itself.
+    pub same: XlateObj,
+}
+
+impl Model for Screen {
+    ghost use Rattle.std.specs.Prelude.{◌≡◌, ◌&&◌, ◌↔◌, IsTrue, length};
+    ghost use Rattle.pix_format.specs.Value.{colours_of};
+    ghost use Rattle.script_orders.specs.Asked.{IsSurfaceSize};
+    ghost use Rattle.script_orders.specs.Places.{MayStandAt};
+    ghost use Rattle.desk_span.specs.Kept.{ScreenKept};
+
+    ghost Value = { ScreenKept };
+
+    ghost view = { λ w. record { place = w.place; at = w.at; size = w.size; format = w.format; table = w.table } };
+
+    ghost invariant = { λ w. (length w.table ≡ colours_of w.format) × IsSurfaceSize w.size × MayStandAt w.at };
+}
+
+/// What a drawing asks of a screen.
+#[derive(Clone, Copy, Debug, PartialEq, Eq)]
+pub struct Piece {
+    /// The call, in the screen's own coordinates; it holds the screen where that is its source.
+    pub call: DrawCall,
+    /// The rectangle of the desk in which the screen has points that are drawn.
+    pub asked: Rect,
+}
+
+/// The point at which a source stands: that of the screen where it is the desk.
+fn stand_of(screen: Point, feed: &Feed) -> Point
+    ensures { result ≡ stand_of screen feed.now }
+{
+    match feed {
+        Feed::Desk => screen,
+        _ => ORIGIN,
+    }
+}
+
+/// The call on the screen of a driver, which it holds where that is its own source.
+fn aimed(own: bool, call: &DrawCall) -> DrawCall
+    ensures { result ≡ aimed own call.now }
+{
+    let target = Target::Screen;
+    let held = own.then_some(target);
+    match call {
+        DrawCall::Blt(call) => DrawCall::Blt(BltCall {
+            target,
+            held,
+            ..*call
+        }),
+        DrawCall::Copy(call) => DrawCall::Copy(CopyCall {
+            target,
+            held,
+            ..*call
+        }),
+        DrawCall::Paint(call) => DrawCall::Paint(PaintCall { target, ..*call }),
+    }
+}
+
+/// Whether a call reads what it draws on as its source.
+fn reads_own(own: bool, call: &DrawCall) -> bool
+    ensures { result ≡ (own && reads_source call.now) }
+{
+    own && call.reads_source()
+}
+
+impl Screen {
+    /// The translation to it from a source, or from itself where none is lent; none for a call that has no source.
+    ///
+    /// # Errors
+    ///
+    /// `AllocError` for want of memory.
+    pub(crate) fn translation(
+        &self,
+        alloc: Global,
+        call: &DrawCall,
+        source: Option<&Canvas>,
+        back: Rgb,
+    ) -> Result<Option<XlateObj>, AllocError>
+        ensures { let from = unwrap_or (option_copied source.entry) (plate self.now) in
+            IfOk result (λ x. x ≡ translation_for call.now (translation from (plate self.now) back)) }
+    {
+        if let DrawCall::Paint(_) = call {
+            return Ok(None);
+        }
+        let (format, table) = match source {
+            Some(source) => (source.format(), source.table()),
+            None => (self.format, &self.table),
+        };
+        let xlate = XlateObj::build(alloc, format, table, self.format, &self.table, back)?;
+        Ok(Some(xlate))
+    }
+
+    /// A translation, or that from it to itself where there is none.
+    pub(crate) fn or_same<'a>(&'a self, xlate: &'a Option<XlateObj>) -> &'a XlateObj
+        ensures { IfSome xlate.now (λ x. result.now ≡ x) }
+    {
+        match xlate {
+            Some(xlate) => xlate,
+            None => &self.same,
+        }
+    }
+
+    /// What a drawing on the desk asks of this screen; none where it reaches no point of the screen in its clip, or finds no source for one.
+    pub(crate) fn piece(&self, command: &DeskCommand) -> Option<Piece>
+        requires target { command.now.target ≡ spots.Desk }
+        requires places { IsPlaced command.now.call }
+        ensures none { IfNone result (¬ (Reaches (piece_on self.now command.now) self.now.size)) }
+        ensures some { IfSome result (IsPiece self.now command.now) }
+    {
+        let own = is_own(command.target, &command.source);
+        let call = aimed(own, &self.call(command));
+        let asked = self.frame(&call, own).shifted(self.at);
+        if !meets(region_of(&command.clip), &asked) {
+            return None;
+        }
+        Some(Piece { call, asked })
+    }
+
+    /// A drawing's call in the screen's own coordinates, its source counted from where it stands.
+    fn call(&self, command: &DeskCommand) -> DrawCall
+        requires { IsPlaced command.now.call }
+        ensures call { result ≡ screen_call self.now command.now }
+        ensures coordinates { HasCoordinates result }
+    {
+        let call = command.call.shifted(origin_from(&self.at));
+        call.lent_from(stand_of(self.at, &command.source))
+    }
+
+    /// The points of a call's rectangle on the screen; of a call that reads the screen itself those for which this has the source's points.
+    fn frame(&self, call: &DrawCall, own: bool) -> Rect
+        requires { HasCoordinates call.now }
+        ensures points { (p : Point) → IsIn p result ↔ (IsIn p (rect_of call.now) × IsIn p (whole self.now.size) × FindsThere own call.now self.now.size p) }
+        ensures inside { LiesIn result self.now.size }
+    {
+        let frame = call.rect().cut_to(self.size);
+        if reads_own(own, call) {
+            return self.found(call, &frame);
+        }
+        frame
+    }
+
+    /// The points of a frame on the screen for which the screen has a call's source's points.
+    fn found(&self, call: &DrawCall, frame: &Rect) -> Rect
+        requires coordinates { HasCoordinates call.now }
+        requires frame { LiesIn frame.now self.now.size }
+        ensures points { (p : Point) → IsIn p result ↔ (IsIn p frame.now × IsIn (source_point call.now p) (whole self.now.size)) }
+        ensures inside { LiesIn result self.now.size }
+    {
+        let size = self.size;
+        let by = shifted_back(call.src(), call.rect().corner());
+        let found = frame.shifted(by).cut_to(size);
+        seen_from(&by, &found).cut_to(size)
+    }
+}

@@ -1,0 +1,10 @@
+use Rattle.std.proofs.Common.{refl}
+use Rattle.linear_tests.proofs.StageLemmas.{can_draw, coordinates_fit}
+use Rattle.linear_tests.proofs.calls.copy.Goals as goal
+
+pub hand_over-requires-clause-can : goal.hand_over-requires-clause-can
+hand_over-requires-clause-can g c =
+    let h = c.requires.stage.screen in
+    let p = c.in_ok-props.props in
+    can_draw _ _ _ _ h refl refl tt c.in_ok-clip.ensures.inside (coordinates_fit, c.requires.point) p.colours
+    ((rw (c.on-source.ensures.layout, c.new-2.ensures) p.source, p.target), refl)

@@ -1,5 +1,0 @@
-use Rattle.linear_tests.proofs.StageLemmas.{after_read}
-use Rattle.linear_tests.proofs.stage.synchronised.Goals as goal
-
-pub returns : goal.returns
-returns c = record { stage = after_read _ _ _ c.synchronise.ensures.keeps c.requires.stage }
