@@ -1,10 +1,12 @@
 pub mod CallLemmas
 pub mod ConfigLemmas
+pub mod DrivenLemmas
 pub mod HexLemmas
 pub mod HistoryLemmas
 pub mod InputLaws
 pub mod LineLemmas
 pub mod LiveLemmas
+pub mod MakeLemmas
 pub mod NumberLemmas
 pub mod ReadLemmas
 pub mod RowLemmas

@@ -2,7 +2,10 @@
 use Rattle.std.proofs.Common.{◌≡◌, ◌∙◌, ℕ, suc, ◌+◌, ◌<◌, List, length, get_or, drop, drop-cons, add-one, sym, ap, subst}
 use Rattle.script_orders.specs.Live.{CanDo, CanRun, Live, after}
 use Rattle.script_orders.specs.declared.script_command.ScriptCommand.{ScriptCommand}
-use Rattle.desk_span.specs.Desk.{State, carried, live_of}
+use Rattle.copy_port.specs.State.{PortState}
+use Rattle.desk_span.specs.Carries.{Carries}
+use Rattle.desk_span.specs.Desk.{live_of}
+use Rattle.desk_span.specs.Kept.{Kept, live_in, state_by}
 use Rattle.desk_span.specs.LiveLaws.{live_after}
 use Rattle.desk_span.specs.Reports.{Told}
 
@@ -13,6 +16,7 @@ run_next l commands i c can lt is =
     rw (add-one) (subst (λ (d : ScriptCommand). CanDo l d × CanRun (after d l) (drop (suc i) commands)) (sym is)
     (subst (CanRun l) (drop-cons commands i c lt) can))
 
-pub can_rest : (c : ScriptCommand) (told : List Told) (s t : State) (rest : List ScriptCommand) → t ≡ carried c told s → CanRun (after c (live_of s)) rest →
-    CanRun (live_of t) rest
-can_rest c told s t rest e can = subst (λ (l : Live). CanRun l rest) (sym (ap live_of e ∙ live_after c told s)) can
+pub can_rest : (c : ScriptCommand) (told : List Told) (k l : Kept) (from to : PortState) (rest : List ScriptCommand) → Carries k l c told from to →
+    CanRun (after c (live_in k)) rest → CanRun (live_in l) rest
+can_rest c told k l from to rest h can =
+    subst (λ (live : Live). CanRun live rest) (sym (ap live_of h.shows ∙ live_after c told (state_by k from))) can

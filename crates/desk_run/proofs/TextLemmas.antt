@@ -1,15 +1,17 @@
 -- Reports that are read back from what is written.
-use Rattle.std.proofs.Common.{◌≡◌, ℕ, suc, ◌+◌, ◌<◌, ◌≤◌, ◌^◌, ℤ, pos, negsuc, List, [], ◌∷◌, ◌++◌, length, decimal, codes, refl, sym, ap, ◌∙◌, subst}
+use Rattle.std.proofs.Common.{◌≡◌, ℕ, zero, suc, ◌+◌, ◌<◌, ◌≤◌, ◌^◌, ℤ, pos, negsuc, List, [], ◌∷◌, ◌++◌, length, decimal, codes, refl, sym, ap, ◌∙◌, subst}
 use Rattle.std.proofs.Common.{arith, append_assoc, append-nil, Option, Some, None}
 use Rattle.std.proofs.lemmas.Int.{ints}
 use Rattle.std.proofs.lemmas.List.{append_cancel_left, length-map}
-use Rattle.std.proofs.lemmas.Option.{slice_get_within}
-use Rattle.std.specs.Prelude.{All, MatchOption}
+use Rattle.std.proofs.lemmas.List.Elements.{All-cons, All-head, All-nil, All-tail}
+use Rattle.std.proofs.lemmas.Option.{none-some, same_Some, slice_get_within}
+use Rattle.std.specs.Prelude.{All, MatchOption, slice_get}
 use Rattle.std.specs.Fmt.{signed_decimal}
 use Rattle.std.specs.List.{flat_map}
 use lib.Signed.{mag}
 use Rattle.geom_base.specs.declared.rect.Rect.{Rect}
 use Rattle.geom_base.specs.declared.size.Size.{Size as SurfaceSize}
+use Rattle.geom_base.specs.Points.{HasSides, LiesIn}
 use Rattle.pix_format.specs.Value.{digits_of}
 use Rattle.pix_format.specs.declared.format.Format.{Format}
 use Rattle.script_orders.specs.declared.desk_command.DeskCommand.{DeskCommand}
@@ -24,10 +26,11 @@ use Rattle.desk_span.specs.Desk.{State, carried, drawn_on, drawn_screens, surfac
 use Rattle.hook_route.specs.declared.outcome.Cause.{Cause}
 use Rattle.hook_route.specs.declared.outcome.Cause.TheVariants.{Fault, Memory}
 use Rattle.desk_span.specs.Meeting.{IsTarget}
-use Rattle.desk_span.specs.Telling.{IsReport}
+use Rattle.desk_span.specs.Telling.{IsPart, IsReport, IsUndrawn, IsUnread, MayTell, ReadTells}
 use Rattle.desk_span.specs.Reports.{Told}
 use Rattle.desk_run.specs.TextLaws.{HasNumber, IsEdge, HasEdges, IsReportOn}
-use Rattle.desk_run.specs.Run.{Entry, IsUnread, MayTell, MayTellAll, ReadTells, body, commands_of, out, read_text, text_of}
+use Rattle.desk_run.specs.Entries.{Entry, MayTellAll, commands_of}
+use Rattle.desk_run.specs.Run.{body, out, read_text, text_of}
 use Rattle.desk_run.specs.Texts.{BitmapNames, cause_text, drawn_text, dump_text, end_text, format_text, head_text, hex_digits, name_text, report_text}
 use Rattle.desk_run.specs.Texts.{rows_text, sum_line_text, sum_of, sum_text, unread_text}
 use Rattle.desk_run.proofs.HexLemmas.{hex_line, length-hex_digits}
@@ -273,16 +276,61 @@ has_number : (s : State) (q : Named) (t : Surface) → length s.screens < 2 ^ 64
 has_number s (Bitmap n) t small there = tt
 has_number s (Screen n) t small there = let in_list = slice_get_within s.screens n t there in omega (arith, in_list, small)
 
-report_is : (s : State) (c : DeskCommand) (t : Told) → length s.screens < 2 ^ 64 → IsReport s c t → IsReportOn c.target t
-report_is s c t small is = record {
-  target = is.meets.target;
-  number = has_number s t.target is.meets.surface small is.meets.there;
-  count = rw is.wanting.1 (omega arith);
-  edges = rw is.wanting.1 (λ k d lt. absurd (omega (arith, lt)));
+-- a rectangle that lies in a surface has edges of 32 bits
+rect_edges : (r : Rect) (size : SurfaceSize) → HasSides size → LiesIn r size → HasEdges r
+rect_edges r size sides h = record {
+  left = (omega (arith, ints, h.left), omega (arith, ints, h.across, h.right, sides.1));
+  top = (omega (arith, ints, h.top), omega (arith, ints, h.down, h.bottom, sides.3));
+  right = (omega (arith, ints, h.left, h.across), omega (arith, ints, h.right, sides.1));
+  bottom = (omega (arith, ints, h.top, h.down), omega (arith, ints, h.bottom, sides.3));
 }
 
-reports_are : (s : State) (c : DeskCommand) (told : List Told) → length s.screens < 2 ^ 64 → All (IsReport s c) told → All (IsReportOn c.target) told
-reports_are s c told small all = λ k d lt. report_is s c _ small (all k d lt)
+screen_sides : (ts : List Surface) (n : ℕ) (t : Surface) → All (λ (u : Surface). HasSides u.size) ts → slice_get ts n ≡ Some t → HasSides t.size
+screen_sides [] n t all e = absurd (none-some _ e)
+screen_sides (u ∷ ts) zero t all e = subst (λ (v : Surface). HasSides v.size) (same_Some _ _ e) (All-head (λ (v : Surface). HasSides v.size) u ts all)
+screen_sides (u ∷ ts) (suc n) t all e = screen_sides ts n t (All-tail (λ (v : Surface). HasSides v.size) u ts all) e
+
+report_edges : (s : State) (c : DeskCommand) (q : Named) (t : Surface) (rects : List Rect) → All (λ (u : Surface). HasSides u.size) s.screens →
+    surface_at s q ≡ Some t → All (IsPart s c q t.size) rects → IsUndrawn q rects → All HasEdges rects
+report_edges s c (Screen n) t rects sides there parts undrawn =
+    λ k d lt. rect_edges _ t.size (screen_sides s.screens n t sides there) (parts k d lt).inside
+report_edges s c (Bitmap n) t rects sides there parts undrawn = rw undrawn (All-nil HasEdges)
+
+report_is : (s : State) (c : DeskCommand) (t : Told) → length s.screens < 2 ^ 64 → All (λ (u : Surface). HasSides u.size) s.screens → IsReport s c t →
+    IsReportOn c.target t
+report_is s c t small sides is = record {
+  target = is.meets.target;
+  number = has_number s t.target is.meets.surface small is.meets.there;
+  count = is.few;
+  edges = report_edges s c t.target is.meets.surface t.rects sides is.meets.there is.parts is.undrawn;
+}
+
+reports_are : (s : State) (c : DeskCommand) (told : List Told) → length s.screens < 2 ^ 64 → All (λ (u : Surface). HasSides u.size) s.screens →
+    All (IsReport s c) told → All (IsReportOn c.target) told
+reports_are s c told small sides all = λ k d lt. report_is s c _ small sides (all k d lt)
+
+-- a command leaves the sides of the screens
+drawn_sides : (s : State) (c : DeskCommand) (told : List Told) (n : ℕ) (ts : List Surface) → All (λ (u : Surface). HasSides u.size) ts →
+    All (λ (u : Surface). HasSides u.size) (drawn_screens s c told n ts)
+drawn_sides s c told n [] all = All-nil (λ (u : Surface). HasSides u.size)
+drawn_sides s c told n (t ∷ ts) all =
+    All-cons (λ (u : Surface). HasSides u.size) _ _ (All-head (λ (u : Surface). HasSides u.size) t ts all)
+    (drawn_sides s c told (n + 1) ts (All-tail (λ (u : Surface). HasSides u.size) t ts all))
+
+on_sides : (s : State) (c : DeskCommand) (told : List Told) (spot : Spot) → All (λ (u : Surface). HasSides u.size) s.screens →
+    All (λ (u : Surface). HasSides u.size) (drawn_on s c told spot).screens
+on_sides s c told spots.Desk all = drawn_sides s c told 0 s.screens all
+on_sides s c told (spots.Bitmap n) all = all
+
+carried_sides : (s : State) (c : ScriptCommand) (told : List Told) → All (λ (u : Surface). HasSides u.size) s.screens →
+    All (λ (u : Surface). HasSides u.size) (carried c told s).screens
+carried_sides s (Draw c) told all = on_sides s c told c.target all
+carried_sides s (Dump q) told all = all
+carried_sides s (Sum q) told all = all
+carried_sides s (Create o) told all = all
+carried_sides s (Delete n) told all = all
+carried_sides s (Brush o) told all = all
+carried_sides s Nothing told all = all
 
 -- a command leaves as many screens as there were
 drawn_length : (s : State) (c : DeskCommand) (told : List Told) (n : ℕ) (ts : List Surface) → length (drawn_screens s c told n ts) ≡ length ts
@@ -304,7 +352,7 @@ carried_length s Nothing told = refl
 
 -- a read's report and what stands behind its lines
 same_unread : (s : State) (q : Named) (t u : Told) → IsUnread s q t → IsUnread s q u → t.cause ≡ u.cause → t ≡ u
-same_unread s q t u a b cause = same_report t u (a.target ∙ sym b.target) cause (a.wanting.1 ∙ sym b.wanting.1)
+same_unread s q t u a b cause = same_report t u (a.target ∙ sym b.target) cause (a.nothing ∙ sym b.nothing)
 
 read_back : (word : List ℕ) (names : BitmapNames) (s : State) (q : Named) (told other : List Told) (text : Surface → List ℕ) (from : Option Surface) (x y : List ℕ) →
     surface_at s q ≡ from → IsNoCause word names q text → ReadTells s q told → ReadTells s q other →
@@ -323,17 +371,17 @@ read_back word names s q (t ∷ told) (u ∷ other) text from x y is none a b e 
 
 -- one command's reports and what stands behind its lines
 command_back : (names : BitmapNames) (n : ℕ) (c : ScriptCommand) (told other : List Told) (s : State) (x y : List ℕ) → length s.screens < 2 ^ 64 →
-    MayTell s c told → MayTell s c other → Past n x → Past n y → text_of names n c told s ++ x ≡ text_of names n c other s ++ y → (told ≡ other) × (x ≡ y)
-command_back names n (Draw c) told other s x y small a b p q e =
-    reports_back names n c.target told other x y (reports_are s c told small a.each) (reports_are s c other small b.each) p q e
-command_back names n (Dump d) told other s x y small a b p q e =
+    All (λ (u : Surface). HasSides u.size) s.screens → MayTell s c told → MayTell s c other → Past n x → Past n y → text_of names n c told s ++ x ≡ text_of names n c other s ++ y → (told ≡ other) × (x ≡ y)
+command_back names n (Draw c) told other s x y small sides a b p q e =
+    reports_back names n c.target told other x y (reports_are s c told small sides a.each) (reports_are s c other small sides b.each) p q e
+command_back names n (Dump d) told other s x y small sides a b p q e =
     read_back (codes "dump ") names s d told other (dump_of names d) (surface_at s d) x y refl (dump_no_cause names d) a b e
-command_back names n (Sum d) told other s x y small a b p q e =
+command_back names n (Sum d) told other s x y small sides a b p q e =
     read_back (codes "sum ") names s d told other (sum_of_surface names d) (surface_at s d) x y refl (sum_no_cause names d) a b e
-command_back names n (Create o) told other s x y small a b p q e = (a ∙ sym b, e)
-command_back names n (Delete d) told other s x y small a b p q e = (a ∙ sym b, e)
-command_back names n (Brush o) told other s x y small a b p q e = (a ∙ sym b, e)
-command_back names n Nothing told other s x y small a b p q e = (a ∙ sym b, e)
+command_back names n (Create o) told other s x y small sides a b p q e = (a ∙ sym b, e)
+command_back names n (Delete d) told other s x y small sides a b p q e = (a ∙ sym b, e)
+command_back names n (Brush o) told other s x y small sides a b p q e = (a ∙ sym b, e)
+command_back names n Nothing told other s x y small sides a b p q e = (a ∙ sym b, e)
 
 -- what is the same in all its parts
 same_first : (c d : ScriptCommand) (cs ds : List ScriptCommand) → c ∷ cs ≡ d ∷ ds → c ≡ d
@@ -349,18 +397,18 @@ same_entry : (e f : Entry) → e.command ≡ f.command → e.told ≡ f.told →
 same_entry e f command told = ap (λ (c : ScriptCommand). entry_of c e.told) command ∙ ap (λ (ts : List Told). entry_of f.command ts) told
 
 -- the same commands from one state, with the last line behind them
-body_back : (names : BitmapNames) (n j k : ℕ) (h g : List Entry) (s : State) → n + length h ≤ 2 ^ 64 → length s.screens < 2 ^ 64 → MayTellAll s h → MayTellAll s g →
-    commands_of h ≡ commands_of g → body names n h s ++ end_text j ≡ body names n g s ++ end_text k → h ≡ g
-body_back names n j k [] [] s small few a b same e = refl
-body_back names n j k [] (f ∷ fs) s small few a b same e = absurd (let long = ap length same in omega (arith, long))
-body_back names n j k (f ∷ fs) [] s small few a b same e = absurd (let long = ap length same in omega (arith, long))
-body_back names n j k (f ∷ fs) (g ∷ gs) s small few a b same e =
+body_back : (names : BitmapNames) (n j k : ℕ) (h g : List Entry) (s : State) → n + length h ≤ 2 ^ 64 → length s.screens < 2 ^ 64 →
+    All (λ (u : Surface). HasSides u.size) s.screens → MayTellAll s h → MayTellAll s g → commands_of h ≡ commands_of g → body names n h s ++ end_text j ≡ body names n g s ++ end_text k → h ≡ g
+body_back names n j k [] [] s small few sides a b same e = refl
+body_back names n j k [] (f ∷ fs) s small few sides a b same e = absurd (let long = ap length same in omega (arith, long))
+body_back names n j k (f ∷ fs) [] s small few sides a b same e = absurd (let long = ap length same in omega (arith, long))
+body_back names n j k (f ∷ fs) (g ∷ gs) s small few sides a b same e =
     let command = same_first f.command g.command (commands_of fs) (commands_of gs) same in
     let others = same_others f.command g.command (commands_of fs) (commands_of gs) same in
     let long : length gs ≡ length fs = sym (length-map gs (λ (x : Entry). x.command)) ∙ ap length (sym others) ∙ length-map fs (λ (x : Entry). x.command) in
     let after = λ (x : Entry). carried x.command x.told s in
     let (told, rest) = command_back names n f.command f.told g.told s (body names (n + 1) fs (after f) ++ end_text j) (body names (n + 1) gs (after g) ++ end_text k)
-    few a.0 (rw (sym command) at b.0)
+    few sides a.0 (rw (sym command) at b.0)
     (body_past names (n + 1) n j fs (after f) (omega arith) (omega (arith, small)))
     (body_past names (n + 1) n k gs (after g) (omega arith) (omega (arith, small, long)))
     (sym (append_assoc (text_of names n f.command f.told s) (body names (n + 1) fs (after f)) (end_text j)) ∙ e
@@ -368,9 +416,9 @@ body_back names n j k (f ∷ fs) (g ∷ gs) s small few a b same e =
     ∙ ap (λ (c : ScriptCommand). text_of names n c g.told s ++ (body names (n + 1) gs (after g) ++ end_text k)) (sym command)) in
     let entry : f ≡ g = same_entry f g command told in
     let state : after f ≡ after g = ap after entry in
-    let rests = body_back names (n + 1) j k fs gs (after f) (omega (arith, small)) (rw (carried_length s f.command f.told) few) a.1 (rw (sym state) at b.1) others (rest ∙ rw state refl) in
+    let rests = body_back names (n + 1) j k fs gs (after f) (omega (arith, small)) (rw (carried_length s f.command f.told) few) (carried_sides s f.command f.told sides) a.1 (rw (sym state) at b.1) others (rest ∙ rw state refl) in
     rw (entry, rests) refl
 
-pub histories_back : (names : BitmapNames) (s : State) (h g : List Entry) → length h < 2 ^ 64 → length s.screens < 2 ^ 64 → MayTellAll s h → MayTellAll s g →
-    commands_of h ≡ commands_of g → out names h s ≡ out names g s → h ≡ g
-histories_back names s h g small few a b same e = body_back names 1 (length h) (length g) h g s (omega (arith, small)) few a b same e
+pub histories_back : (names : BitmapNames) (s : State) (h g : List Entry) → length h < 2 ^ 64 → length s.screens < 2 ^ 64 →
+    All (λ (u : Surface). HasSides u.size) s.screens → MayTellAll s h → MayTellAll s g → commands_of h ≡ commands_of g → out names h s ≡ out names g s → h ≡ g
+histories_back names s h g small few sides a b same e = body_back names 1 (length h) (length g) h g s (omega (arith, small)) few sides a b same e

@@ -1,8 +1,13 @@
 -- The configuration: one linear screen of format 8, of any width and height in range.
-use Rattle.std.specs.Prelude.{◌≡◌, ℕ, ◌*◌, List, take, drop, length, codes, slice_index, Option, Some, None}
+use Rattle.std.specs.Prelude.{◌≡◌, ℕ, ◌*◌, List, [], ◌∷◌, take, drop, length, codes, slice_index, Option, Some, None}
 use Rattle.std.specs.Prelude.{Result, Ok, Err, Bool, ◌==◌, nat_le, ◌&&◌, if◌then◌else◌}
 use Rattle.std.specs.Str.{bytes_eq}
 use Rattle.geom_base.specs.Points.{most_side}
+use Rattle.copy_port.specs.declared.classes.Classes.{Classes}
+use Rattle.copy_port.specs.declared.hooks.Hooks.{Hooks}
+use Rattle.copy_port.specs.declared.words.Mode.{Mode}
+use Rattle.pix_format.specs.Standard.{standard_colours}
+use Rattle.pix_format.specs.declared.format.Format.TheVariants.{B8}
 use Rattle.desk_run.specs.declared.config.DeskConfig.{DeskConfig}
 use Rattle.desk_run.specs.declared.input.InputError.{InputError}
 use Rattle.desk_run.specs.declared.input.InputError.TheVariants.{Refused, NoMemory}
@@ -42,6 +47,29 @@ config_of lines = do
   height ← side_behind (codes "height = ") (word_at lines 5)
   _ ← ask (nat_le (width * height) 4194304) (Config 0)
   Ok (record { size = record { w = width; h = height } })
+
+-- all calls and all classes
+abbrev pub all_hooks : Hooks
+all_hooks = record { 0 = 511 }
+
+abbrev pub all_classes : Classes
+all_classes = record { 0 = 1023 }
+
+-- the mode of the screen: all calls are hooked, all classes taken, nothing is declined, and no call of the device fails
+abbrev pub mode_of : DeskConfig → Mode
+mode_of c = record {
+  size = c.size;
+  format = B8;
+  table = standard_colours B8;
+  hooks = all_hooks;
+  takes = all_classes;
+  decline = 0;
+  bank = 65536;
+  ring = 4096;
+  spare = 256;
+  pace = 1 ∷ [];
+  faults = [];
+}
 
 -- what was read is what the definition gives, unless memory ran out
 abbrev pub AnswersConfig : Result DeskConfig InputError → Result DeskConfig InputRefusal → Type 0

@@ -1,6 +1,8 @@
 pub mod Status
 pub mod Input
 pub mod Texts
+pub mod Entries
+pub mod Driven
 pub mod Run
 pub mod TextLaws
 pub mod Answers

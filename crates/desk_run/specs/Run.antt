@@ -1,60 +1,30 @@
 -- A run: commands one after the other, and what is written of them.
-use Rattle.std.specs.Prelude.{◌≡◌, ℕ, ◌+◌, Bool, true, false, List, [], ◌∷◌, ◌++◌, length, map, take, drop, codes, Option, ◌⊎◌, ◌==◌}
-use Rattle.std.specs.List.{flat_map, list_all}
+use Rattle.std.specs.Prelude.{◌≡◌, ℕ, ◌+◌, Bool, true, false, List, [], ◌∷◌, ◌++◌, length, take, drop, codes, Option, ◌⊎◌}
+use Rattle.std.specs.List.{flat_map}
 use Rattle.std.specs.Option.{option_map_or}
 use Rattle.desk_io.specs.Sinks.{Puts}
 use Rattle.surf_obj.specs.Surface.{Surface}
+use Rattle.copy_port.specs.State.{PortState}
 use Rattle.script_orders.specs.declared.named.Named.{Named}
 use Rattle.script_orders.specs.declared.script_command.ScriptCommand.{ScriptCommand}
 use Rattle.script_orders.specs.declared.script_command.ScriptCommand.TheVariants.{Create, Delete, Brush, Draw, Dump, Sum, Nothing}
 use Rattle.desk_run.specs.declared.run.Ended.{Ended}
-use Rattle.desk_run.specs.declared.run.Ended.TheVariants.{Done, MemorySeen, NoMemory, WriteFault}
-use Rattle.desk_span.specs.Reports.{Told}
-use Rattle.desk_span.specs.Reading.{SurfaceIs}
-use Rattle.desk_span.specs.Telling.{AreReports, IsWanting}
+use Rattle.desk_run.specs.declared.run.Ended.TheVariants.{Done, FaultSeen, MemorySeen, NoMemory, WriteFault}
+use Rattle.desk_span.specs.Carries.{Carries}
 use Rattle.desk_span.specs.Desk.{State, surface_at, carried}
+use Rattle.desk_span.specs.Kept.{Kept, Serves, state_by}
+use Rattle.desk_span.specs.Reports.{Told}
+use Rattle.desk_run.specs.Driven.{Driven}
+use Rattle.desk_run.specs.Entries.{Entry, MayTellAll, any_fault, commands_of, is_whole, run}
 use Rattle.desk_run.specs.Texts.{BitmapNames, report_text, dump_text, sum_text, unread_text, end_text}
 
--- a command that was carried out, with its reports
-pub record Entry : Type 0 where
-  pub command : ScriptCommand
-  pub told : List Told
-
-abbrev pub commands_of : List Entry → List ScriptCommand
-commands_of = map (λ (e : Entry). e.command)
-
--- the state after these commands with these reports
-abbrev pub run : List Entry → State → State
-run [] s = s
-run (e ∷ es) s = run es (carried e.command e.told s)
-
--- a report that a surface, which is there, could not be read: it has no rectangles, and memory was wanting
-pub record IsUnread (s : State) (q : Named) (t : Told) : Type 0 where
-  pub there : SurfaceIs s q (λ surface. Unit {0})
-  pub target : t.target ≡ q
-  pub wanting : IsWanting t
-
--- the reports that a read may have: none, or the one that it could not be done
-abbrev pub ReadTells : State → Named → List Told → Type 0
-ReadTells s q [] = Unit {0}
-ReadTells s q (t ∷ told) = IsUnread s q t × (told ≡ [])
-
--- the reports that a command may have: those of a drawing, or that of a read; no other has any
-abbrev pub MayTell : State → ScriptCommand → List Told → Type 0
-MayTell s (Draw c) told = AreReports s c told
-MayTell s (Dump q) told = ReadTells s q told
-MayTell s (Sum q) told = ReadTells s q told
-MayTell s command told = told ≡ []
-
--- each command has reports that it may have, in the state before it
-abbrev pub MayTellAll : State → List Entry → Type 0
-MayTellAll s [] = Unit {0}
-MayTellAll s (e ∷ es) = MayTell s e.command e.told × MayTellAll (carried e.command e.told s) es
-
--- commands that were carried out one after the other, with their reports, and the state that they left
-pub record History (s t : State) (h : List Entry) : Type 0 where
-  pub tells : MayTellAll s h
-  pub shows : t ≡ run h s
+-- a history of the desk and of its screen's driver: what both show then, what was told, and what the driver was asked
+pub record History (k l : Kept) (from to : PortState) (h : List Entry) : Type 0 where
+  pub screen : l.screen ≡ k.screen
+  pub serves : Serves l.screen to
+  pub shows : state_by l to ≡ run h (state_by k from)
+  pub tells : MayTellAll (state_by k from) h
+  pub drives : Driven (state_by k from) h from to
 
 -- the text of a read: that of the surface; or, where it could not be read, the one line with the cause
 abbrev pub read_text : List ℕ → BitmapNames → Named → List Told → (Surface → List ℕ) → Option Surface → List ℕ
@@ -71,12 +41,11 @@ text_of names n (Delete b) told s = []
 text_of names n (Brush o) told s = []
 text_of names n Nothing told s = []
 
--- command n that was carried out with these reports: the state that it left, and what was written of it
-pub record Carried (names : BitmapNames) (n : ℕ) (command : ScriptCommand) (told : List Told) (s t : State) (old new : Option (List ℕ))
-    (before after : ℕ) (failed : Bool) : Type 0 where
-  pub tells : MayTell s command told
-  pub shows : t ≡ carried command told s
-  pub wrote : Puts (text_of names n command told s) old new before after failed
+-- command n that was carried out with these reports: what it left of the desk and the driver, and what was written of it
+pub record Carried (names : BitmapNames) (n : ℕ) (command : ScriptCommand) (told : List Told) (k l : Kept) (from to : PortState)
+    (old new : Option (List ℕ)) (before after : ℕ) (failed : Bool) : Type 0 where
+  pub carries : Carries k l command told from to
+  pub wrote : Puts (text_of names n command told (state_by k from)) old new before after failed
 
 -- the lines of these commands, the first being number n
 abbrev pub body : BitmapNames → ℕ → List Entry → State → List ℕ
@@ -86,10 +55,6 @@ body names n (e ∷ es) s = text_of names n e.command e.told s ++ body names (n 
 -- all that is written
 abbrev pub out : BitmapNames → List Entry → State → List ℕ
 out names h s = body names 1 h s ++ end_text (length h)
-
--- nothing was reported
-abbrev pub is_whole : List Entry → Bool
-is_whole h = list_all (λ (e : Entry). length e.told == 0) h
 
 -- a command that makes something, and so may end a run for want of memory
 abbrev pub Makes : ScriptCommand → Type 0
@@ -104,29 +69,32 @@ NextMakes (command ∷ commands) = Makes command
 -- which commands were carried out; for want of memory the next one makes something
 abbrev pub EndsAs : List ScriptCommand → List Entry → Ended → Type 0
 EndsAs commands h Done = commands_of h ≡ commands
+EndsAs commands h FaultSeen = commands_of h ≡ commands
 EndsAs commands h MemorySeen = commands_of h ≡ commands
 EndsAs commands h NoMemory = (commands_of h ≡ take (length h) commands) × NextMakes (drop (length h) commands)
 EndsAs commands h WriteFault = commands_of h ≡ take (length h) commands
 
--- whether something was reported
+-- what was reported: nothing, a fault, or want of memory alone
 abbrev pub SeenAs : List Entry → Ended → Type 0
 SeenAs h Done = is_whole h ≡ true
-SeenAs h MemorySeen = is_whole h ≡ false
+SeenAs h FaultSeen = any_fault h ≡ true
+SeenAs h MemorySeen = (is_whole h ≡ false) × (any_fault h ≡ false)
 SeenAs h ended = Unit {0}
 
 -- what was written of them: all; for want of memory the lines of the commands that were carried out; or, where the sink failed, a prefix
 -- of these lines, or of all where no command was left
 abbrev pub WroteAs : BitmapNames → List ScriptCommand → State → List Entry → Option (List ℕ) → Option (List ℕ) → ℕ → ℕ → Ended → Type 0
 WroteAs names commands s h old new x y Done = Puts (out names h s) old new x y false
+WroteAs names commands s h old new x y FaultSeen = Puts (out names h s) old new x y false
 WroteAs names commands s h old new x y MemorySeen = Puts (out names h s) old new x y false
 WroteAs names commands s h old new x y NoMemory = Puts (body names 1 h s) old new x y false
 WroteAs names commands s h old new x y WriteFault = Puts (body names 1 h s) old new x y true
     ⊎ ((commands_of h ≡ commands) × Puts (out names h s) old new x y true)
 
--- a whole run: the commands that were carried out with their reports, the state that they left, and what was written of them
-pub record Ran (names : BitmapNames) (commands : List ScriptCommand) (s t : State) (old new : Option (List ℕ)) (before after : ℕ) (ended : Ended)
-    (h : List Entry) : Type 0 where
+-- a whole run: the commands that were carried out with their reports, what they left of the desk and the driver, and what was written of them
+pub record Ran (names : BitmapNames) (commands : List ScriptCommand) (k l : Kept) (from to : PortState) (old new : Option (List ℕ)) (before after : ℕ)
+    (ended : Ended) (h : List Entry) : Type 0 where
   pub ends : EndsAs commands h ended
-  pub history : History s t h
+  pub history : History k l from to h
   pub seen : SeenAs h ended
-  pub wrote : WroteAs names commands s h old new before after ended
+  pub wrote : WroteAs names commands (state_by k from) h old new before after ended

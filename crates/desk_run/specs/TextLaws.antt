@@ -2,13 +2,16 @@
 use Rattle.std.specs.Prelude.{◌≡◌, ℕ, ◌<◌, ◌^◌, ℤ, pos, negsuc, ◌≤ℤ◌, List, ◌++◌, length, All}
 use Rattle.std.specs.List.{flat_map}
 use Rattle.geom_base.specs.declared.rect.Rect.{Rect}
+use Rattle.geom_base.specs.Points.{HasSides}
+use Rattle.surf_obj.specs.Surface.{Surface}
 use Rattle.script_orders.specs.declared.desk_command.Spot.{Spot}
 use Rattle.script_orders.specs.declared.named.Named.{Named}
 use Rattle.script_orders.specs.declared.named.Named.TheVariants.{Screen, Bitmap}
 use Rattle.desk_span.specs.Desk.{State}
 use Rattle.desk_span.specs.Meeting.{IsTarget}
 use Rattle.desk_span.specs.Reports.{Told}
-use Rattle.desk_run.specs.Run.{Entry, MayTellAll, commands_of, out}
+use Rattle.desk_run.specs.Entries.{Entry, MayTellAll, commands_of}
+use Rattle.desk_run.specs.Run.{out}
 use Rattle.desk_run.specs.Texts.{BitmapNames, report_text}
 
 -- a screen's number is one of 64 bits
@@ -43,7 +46,8 @@ abbrev pub ListsAreRead : Type 0
 ListsAreRead = (names : BitmapNames) (n : ℕ) (spot : Spot) (told other : List Told) → All (IsReportOn spot) told → All (IsReportOn spot) other →
     flat_map (report_text names n) told ≡ flat_map (report_text names n) other → told ≡ other
 
--- two histories of the same commands from one state that are written alike are one history
+-- two histories of the same commands from one state, whose screens have sides, that are written alike are one history
 abbrev pub HistoriesAreRead : Type 0
-HistoriesAreRead = (names : BitmapNames) (s : State) (h g : List Entry) → length h < 2 ^ 64 → length s.screens < 2 ^ 64 → MayTellAll s h → MayTellAll s g →
+HistoriesAreRead = (names : BitmapNames) (s : State) (h g : List Entry) → length h < 2 ^ 64 → length s.screens < 2 ^ 64 →
+    All (λ (t : Surface). HasSides t.size) s.screens → MayTellAll s h → MayTellAll s g →
     commands_of h ≡ commands_of g → out names h s ≡ out names g s → h ≡ g

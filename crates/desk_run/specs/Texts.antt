@@ -5,6 +5,10 @@ use Rattle.std.specs.List.{flat_map, fold}
 use Rattle.std.specs.Fmt.{signed_decimal}
 use Rattle.geom_base.specs.declared.rect.Rect.{Rect}
 use Rattle.geom_base.specs.declared.size.Size.{Size as SurfaceSize}
+use Rattle.copy_port.specs.declared.words.Kind.{Kind}
+use Rattle.copy_port.specs.declared.words.Kind.TheVariants.{Linear, Banked, Accel, Mirror}
+use Rattle.copy_port.specs.declared.words.Limit.{Limit}
+use Rattle.copy_port.specs.declared.words.Limit.TheVariants as limits
 use Rattle.pix_format.specs.declared.format.Format.{Format}
 use Rattle.pix_format.specs.declared.format.Format.TheVariants.{B1, B4, B8, B555, B565, B24, B32}
 use Rattle.pix_format.specs.Value.{digits_of}
@@ -13,7 +17,7 @@ use Rattle.script_orders.specs.declared.named.Named.TheVariants.{Screen, Bitmap}
 use Rattle.desk_run.specs.declared.status.InputRefusal.{InputRefusal}
 use Rattle.desk_run.specs.declared.status.InputRefusal.TheVariants.{Size, Config, Script}
 use Rattle.desk_run.specs.declared.status.Status.{Status}
-use Rattle.desk_run.specs.declared.status.Status.TheVariants.{Usage, InputRefused}
+use Rattle.desk_run.specs.declared.status.Status.TheVariants.{Usage, InputRefused, ShelfShort, EnableFault, ModeRefused}
 use Rattle.hook_route.specs.declared.outcome.Cause.{Cause}
 use Rattle.hook_route.specs.declared.outcome.Cause.TheVariants.{Fault, Memory}
 use Rattle.desk_span.specs.Reports.{Told}
@@ -108,8 +112,31 @@ refusal_text Size = codes "refused input size\n"
 refusal_text (Config n) = codes "refused config " ++ decimal n ++ codes "\n"
 refusal_text (Script line n) = codes "refused script " ++ decimal line ++ codes " " ++ decimal n ++ codes "\n"
 
+abbrev pub kind_text : Kind → List ℕ
+kind_text Linear = codes "linear"
+kind_text Banked = codes "banked"
+kind_text Accel = codes "accel"
+kind_text Mirror = codes "mirror"
+
+abbrev pub limit_text : Limit → List ℕ
+limit_text limits.Width = codes "width"
+limit_text limits.Height = codes "height"
+limit_text limits.Format = codes "format"
+limit_text limits.Extra = codes "extra"
+
+-- the line of a shelf that is short of drivers of a kind
+abbrev pub shelf_text : Kind → ℕ → ℕ → List ℕ
+shelf_text kind wanted held = codes "shelf " ++ kind_text kind ++ codes " " ++ decimal wanted ++ codes " " ++ decimal held ++ codes "\n"
+
+-- the line of a screen whose driver wasn't enabled, and why
+abbrev pub enable_text : ℕ → List ℕ → List ℕ
+enable_text screen why = codes "enable " ++ decimal screen ++ codes " " ++ why ++ codes "\n"
+
 -- the text of a status that draws nothing
 abbrev pub plain_text : Status → List ℕ
 plain_text Usage = codes "usage\n"
 plain_text (InputRefused r) = refusal_text r
+plain_text (ShelfShort kind wanted held) = shelf_text kind wanted held
+plain_text (EnableFault screen) = enable_text screen (codes "fault")
+plain_text (ModeRefused screen limit) = enable_text screen (codes "mode " ++ limit_text limit)
 plain_text _ = []

@@ -1,23 +1,32 @@
 //! The top call.
 
-ghost use Rattle.std.specs.Prelude.{◌≡◌, ◌≤◌, ◌*◌, ◌+◌, ◌⊎◌, ℕ, List, Some, None, Ok, map, length, string_bytes, is_some, IfOk};
+ghost use Rattle.std.specs.Prelude.{◌≡◌, ◌<◌, ◌≤◌, ◌*◌, ◌+◌, ◌⊎◌, ℕ, List, Some, None, Ok, map, length, string_bytes, false, is_some, IfOk};
 ghost use Rattle.desk_io.specs.Counts.{Counted};
 ghost use Rattle.desk_io.specs.Sources.{most_bytes};
-ghost use Rattle.desk_run.specs.Answers.{Answered, form_of, input_of};
-ghost use Rattle.desk_run.specs.InnerAnswers.{Ends, RanAs, Says, status_of};
-ghost use Rattle.desk_span.specs.Desk.{first_state, live_of};
+ghost use Rattle.copy_port.specs.declared.words.Kind.TheVariants.{Linear};
+ghost use Rattle.ddi_driver.specs.Modes.{IsMode};
+ghost use Rattle.desk_shelf.specs.Free.{first_free};
+ghost use Rattle.desk_shelf.specs.Shelf.{OthersStay, state_at};
+ghost use Rattle.desk_run.specs.Answers.{Answered, OthersKept, form_of, input_of};
+ghost use Rattle.desk_run.specs.Config.{mode_of};
+ghost use Rattle.desk_run.specs.InnerAnswers.{Ends, RanAs, Says, WasRun, shelf_short, status_of};
+ghost use Rattle.desk_span.specs.Kept.{Serves, first_kept, live_in};
 ghost use Rattle.script_orders.specs.Asked.{IsSurfaceSize};
 ghost use Rattle.script_orders.specs.Live.{CanRun, first_live};
 ghost use Rattle.desk_run.specs.Input.{checked, checked_of};
 ghost use Rattle.desk_run.specs.Status.{is_read_fault, is_write_fault};
 ghost use Rattle.desk_run.specs.declared.status.Status.TheVariants as status;
 
+use crate::config::mode_of;
 use crate::input::{Input, InputError, read_input};
 use crate::room::ReadRoom;
 use crate::run::{Ended, Run, run_all};
 use crate::status::{InputRefusal, Status};
 use crate::text::plain_line;
+use copy_port::{Kind, Mode, Pictured};
+use ddi_driver::{DriverPort, EnableRefusal};
 use desk_io::{ReadRefusal, Sink, Source, read_all, write_all};
+use desk_shelf::{enable_at, first_free};
 use desk_span::{Desk, Reports};
 use std::alloc::{AllocError, Global};
 
@@ -42,41 +51,109 @@ fn say<K: Sink>(sink: &mut K, status: Status) -> Status
     status
 }
 
-/// What it takes to run an input.
-fn run_of<'a>(alloc: Global, input: &'a Input<'a>) -> Result<Run<'a>, AllocError>
+/// What it takes to run an input, and the mode of its screen.
+#[derive(Drop)]
+struct Ready<'a> {
+    mode: Mode,
+    run: Run<'a>,
+}
+
+/// What it takes to run an input on the driver at a place of the shelf.
+fn make_ready<'a>(
+    alloc: Global,
+    input: &'a Input<'a>,
+    place: usize,
+) -> Result<Ready<'a>, AllocError>
     requires { IsSurfaceSize input.now.config.size }
-    ensures script { IfOk result (λ r. r.script.now ≡ input.now.script) }
-    ensures desk { IfOk result (λ r. r.desk ≡ first_state input.now.config.size) }
+    ensures mode { IfOk result (λ r. r.mode ≡ mode_of input.now.config) }
+    ensures fits { IfOk result (λ r. IsMode r.mode) }
+    ensures script { IfOk result (λ r. r.run.script.now ≡ input.now.script) }
+    ensures desk { IfOk result (λ r. r.run.desk ≡ first_kept place input.now.config.size) }
 {
-    Ok(Run {
-        alloc,
-        script: &input.script,
-        desk: Desk::new(alloc, input.config.size)?,
-        reports: Reports::new(alloc)?,
-        room: ReadRoom::new(alloc)?,
+    let config = &input.config;
+    Ok(Ready {
+        mode: mode_of(alloc, config)?,
+        run: Run {
+            alloc,
+            script: &input.script,
+            desk: Desk::new(alloc, place, config.size)?,
+            reports: Reports::new(alloc)?,
+            room: ReadRoom::new(alloc)?,
+        },
     })
 }
 
 /// Carries out the commands on the desk that stands, and answers how that ended.
-fn run_on<K: Sink>(run: &mut Run<'_>, sink: &mut K) -> Status
-    requires can { CanRun (live_of run.old.desk) run.old.script.now.commands }
+fn run_on<K: Sink>(run: &mut Run<'_>, shelf: &mut Vec<DriverPort>, sink: &mut K) -> Status
+    requires place { run.old.desk.screen.place < length shelf.old.items }
+    requires serves { Serves run.old.desk.screen (state_at (map (λ d. ⟦<DriverPort as Pictured>⟧.state d) shelf.old.items) run.old.desk.screen.place) }
+    requires can { CanRun (live_in run.old.desk) run.old.script.now.commands }
     requires few { length run.old.script.now.commands ≤ 100000 }
-    ensures { RanAs run.old.script.now run.old.desk (K.written sink.old) (K.written sink.new) (K.faults sink.old) (K.faults sink.new) result }
+    ensures ran { RanAs run.old.script.now run.old.desk (state_at (map (λ d. ⟦<DriverPort as Pictured>⟧.state d) shelf.old.items) run.old.desk.screen.place) (state_at (map (λ d. ⟦<DriverPort as Pictured>⟧.state d) shelf.new.items) run.old.desk.screen.place)
+        (K.written sink.old) (K.written sink.new) (K.faults sink.old) (K.faults sink.new) result }
+    ensures others { OthersStay run.old.desk.screen.place shelf.old.items shelf.new.items }
 {
-    let ended = run_all(run, sink);
+    let ended = run_all(run, shelf, sink);
     status_of(ended)
 }
 
-/// Runs what an input asks for.
-fn run_input<K: Sink>(alloc: Global, input: &Input<'_>, sink: &mut K) -> Status
+/// Enables the driver at a place of the shelf for the screen of an input, and runs the input on it.
+fn run_at<K: Sink>(
+    alloc: Global,
+    input: &Input<'_>,
+    shelf: &mut Vec<DriverPort>,
+    place: usize,
+    sink: &mut K,
+) -> Status
+    requires place { place < length shelf.old.items }
+    requires disabled { (state_at (map (λ d. ⟦<DriverPort as Pictured>⟧.state d) shelf.old.items) place).rest.enabled ≡ false }
     requires size { IsSurfaceSize input.now.config.size }
     requires can { CanRun first_live input.now.script.commands }
     requires few { length input.now.script.commands ≤ 100000 }
-    ensures { Ends (Some (Ok (checked_of input.now))) (K.written sink.old) (K.written sink.new) (K.faults sink.old) (K.faults sink.new) result }
+    ensures run { WasRun (checked_of input.now) place (state_at (map (λ d. ⟦<DriverPort as Pictured>⟧.state d) shelf.old.items) place) (state_at (map (λ d. ⟦<DriverPort as Pictured>⟧.state d) shelf.new.items) place)
+        (K.written sink.old) (K.written sink.new) (K.faults sink.old) (K.faults sink.new) result }
+    ensures others { OthersStay place shelf.old.items shelf.new.items }
 {
-    match run_of(alloc, input) {
-        Ok(mut run) => run_on(&mut run, sink),
-        Err(_) => Status::NoMemory,
+    let mut ready = match make_ready(alloc, input, place) {
+        Ok(ready) => ready,
+        Err(_) => return Status::NoMemory,
+    };
+    match enable_at(alloc, shelf, place, &ready.mode) {
+        Ok(()) => run_on(&mut ready.run, shelf, sink),
+        Err(EnableRefusal::ModeOut(limit)) => say(sink, Status::ModeRefused { screen: 0, limit }),
+        Err(EnableRefusal::Fault) => say(sink, Status::EnableFault { screen: 0 }),
+        Err(EnableRefusal::NoMemory) => Status::NoMemory,
+    }
+}
+
+/// The status of a shelf on which no linear driver is disabled.
+fn short_of_one() -> Status
+    ensures { result ≡ shelf_short }
+{
+    Status::ShelfShort {
+        kind: Kind::Linear,
+        wanted: 1,
+        held: 0,
+    }
+}
+
+/// Runs what an input asks for, on the first linear driver of the shelf that is disabled.
+fn run_input<K: Sink>(
+    alloc: Global,
+    input: &Input<'_>,
+    shelf: &mut Vec<DriverPort>,
+    sink: &mut K,
+) -> Status
+    requires size { IsSurfaceSize input.now.config.size }
+    requires can { CanRun first_live input.now.script.commands }
+    requires few { length input.now.script.commands ≤ 100000 }
+    ensures ends { Ends (Some (Ok (checked_of input.now))) (map (λ d. ⟦<DriverPort as Pictured>⟧.state d) shelf.old.items) (map (λ d. ⟦<DriverPort as Pictured>⟧.state d) shelf.new.items)
+        (K.written sink.old) (K.written sink.new) (K.faults sink.old) (K.faults sink.new) result }
+    ensures others { OthersKept (first_free Linear (map (λ d. ⟦<DriverPort as Pictured>⟧.state d) shelf.old.items)) shelf.old.items shelf.new.items }
+{
+    match first_free(shelf, Kind::Linear) {
+        Some(place) => run_at(alloc, input, shelf, place, sink),
+        None => say(sink, short_of_one()),
     }
 }
 
@@ -86,6 +163,7 @@ fn status_of(ended: Ended) -> Status
 {
     match ended {
         Ended::Done => Status::Done,
+        Ended::FaultSeen => Status::FaultSeen,
         Ended::MemorySeen => Status::MemorySeen,
         Ended::NoMemory => Status::NoMemory,
         Ended::WriteFault => Status::WriteFault,
@@ -93,19 +171,26 @@ fn status_of(ended: Ended) -> Status
 }
 
 /// Checks the bytes of an input, and runs it.
-fn run_bytes<K: Sink>(alloc: Global, bytes: &[u8], sink: &mut K) -> Status
+fn run_bytes<K: Sink>(
+    alloc: Global,
+    bytes: &[u8],
+    shelf: &mut Vec<DriverPort>,
+    sink: &mut K,
+) -> Status
     requires { length bytes.now ≤ most_bytes }
-    ensures { Ends (Some (checked bytes.now)) (K.written sink.old) (K.written sink.new) (K.faults sink.old) (K.faults sink.new) result }
+    ensures ends { Ends (Some (checked bytes.now)) (map (λ d. ⟦<DriverPort as Pictured>⟧.state d) shelf.old.items) (map (λ d. ⟦<DriverPort as Pictured>⟧.state d) shelf.new.items)
+        (K.written sink.old) (K.written sink.new) (K.faults sink.old) (K.faults sink.new) result }
+    ensures others { OthersKept (first_free Linear (map (λ d. ⟦<DriverPort as Pictured>⟧.state d) shelf.old.items)) shelf.old.items shelf.new.items }
 {
     match read_input(alloc, bytes) {
-        Ok(input) => run_input(alloc, &input, sink),
+        Ok(input) => run_input(alloc, &input, shelf, sink),
         Err(InputError::Refused(refusal)) => say(sink, Status::InputRefused(refusal)),
         Err(InputError::NoMemory) => Status::NoMemory,
     }
 }
 
-/// Reads an input from the source, runs it, and writes to the sink what it asks for. `words` are the words after the
-/// program's name.
+/// Reads an input from the source, runs it on drivers of the shelf, and writes to the sink what it asks for. `words` are the words after the
+/// program's name. The screen takes the first linear driver that is disabled; it stays enabled after a run.
 ///
 /// A source that tells what it has left, and a sink that tells what it was given, show the whole of the answer; of
 /// the others only the causes of faults are known.
@@ -113,6 +198,7 @@ pub fn run_desktop<S: Source, K: Sink>(
     alloc: Global,
     words: &Vec<String>,
     source: &mut S,
+    shelf: &mut Vec<DriverPort>,
     sink: &mut K,
 ) -> Status
     ensures read_fault { Counted (is_read_fault result) (S.faults source.old) (S.faults source.new) }
@@ -120,13 +206,18 @@ pub fn run_desktop<S: Source, K: Sink>(
     ensures usage { form_of (map (λ w. string_bytes w) words.now.items) ≡ None → (result ≡ Status.Usage) ⊎ (result ≡ Status.WriteFault) }
     ensures form { result ≡ Status.Usage → form_of (map (λ w. string_bytes w) words.now.items) ≡ None }
 
-    // The text that is due, by the bytes that the source gives up to its end.
+    // The drivers that no screen takes stay as they are, in their places.
+    ensures others { OthersKept (first_free Linear (map (λ d. ⟦<DriverPort as Pictured>⟧.state d) shelf.old.items)) shelf.old.items shelf.new.items }
+
+    // The text that is due, and what the drivers show, by the bytes that the source gives up to its end.
     ensures answered { (bytes : List ℕ) → S.left source.old ≡ Some bytes → Answered (record {
       words = map (λ w. string_bytes w) words.now.items;
       left = S.left source.old;
       left_after = S.left source.new;
       read_faults = S.faults source.old;
       read_faults_after = S.faults source.new;
+      drivers = (map (λ d. ⟦<DriverPort as Pictured>⟧.state d) shelf.old.items);
+      drivers_after = (map (λ d. ⟦<DriverPort as Pictured>⟧.state d) shelf.new.items);
       written = K.written sink.old;
       written_after = K.written sink.new;
       write_faults = K.faults sink.old;
@@ -137,7 +228,7 @@ pub fn run_desktop<S: Source, K: Sink>(
         return say(sink, Status::Usage);
     }
     match read_all(alloc, source) {
-        Ok(bytes) => run_bytes(alloc, &bytes, sink),
+        Ok(bytes) => run_bytes(alloc, &bytes, shelf, sink),
         Err(ReadRefusal::Fault) => Status::ReadFault,
         Err(ReadRefusal::Size) => say(sink, Status::InputRefused(InputRefusal::Size)),
         Err(ReadRefusal::NoMemory) => Status::NoMemory,

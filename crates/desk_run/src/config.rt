@@ -1,16 +1,20 @@
 //! The configuration of a desktop.
 
 ghost use Rattle.std.specs.Prelude.{◌≡◌, IfOk, length, map, take};
-ghost use Rattle.desk_run.specs.Config.{AnswersConfig, config_of, has_fixed_lines, side_behind, side_of};
+ghost use Rattle.desk_run.specs.Config.{AnswersConfig, config_of, has_fixed_lines, mode_of, side_behind, side_of};
+ghost use Rattle.ddi_driver.specs.Modes.{IsMode};
 ghost use Rattle.desk_run.specs.Input.{IsSide};
 ghost use Rattle.script_orders.specs.Asked.{IsSurfaceSize};
 ghost use Rattle.script_words.specs.Lines.{lines_of};
 
 use crate::input::InputError;
 use crate::status::InputRefusal;
-use geom_base::{MOST_SIDE, Size};
+use bitflags::Flags;
+use copy_port::{Classes, Hooks, Mode};
+use geom_base::{Counts, MOST_SIDE, Size};
+use pix_format::{ColourTable, Format};
 use script_words::{decimal, first_lines, word};
-use std::alloc::Global;
+use std::alloc::{AllocError, Global};
 
 /// The desktop that an input asks for: one screen of format 8 at the desk's corner.
 #[derive(Clone, Copy, Debug, PartialEq, Eq)]
@@ -20,6 +24,34 @@ pub struct DeskConfig {
 
 /// A configuration of other lines than those that can be had.
 const OTHER_LINES: InputRefusal = InputRefusal::Config { number: 0 };
+
+/// The bytes of a bank, the words of a ring, and the rows off screen, where a configuration doesn't say them.
+const BANK: u32 = 65536;
+
+const RING: u32 = 4096;
+
+const SPARE: u32 = 256;
+
+/// What the driver of the screen is enabled with: all calls are hooked, all classes taken, and no call of its device fails.
+pub fn mode_of(alloc: Global, config: &DeskConfig) -> Result<Mode, AllocError>
+    requires { IsSurfaceSize config.now.size }
+    ensures mode { IfOk result (λ m. m ≡ mode_of config.now) }
+    ensures fits { IfOk result (λ m. IsMode m) }
+{
+    Ok(Mode {
+        size: config.size,
+        format: Format::B8,
+        table: ColourTable::standard(alloc, Format::B8)?,
+        hooks: Hooks::all(),
+        takes: Classes::all(),
+        decline: 0,
+        bank: BANK,
+        ring: RING,
+        spare: SPARE,
+        pace: Counts::of(vec![in alloc; 1]?),
+        faults: Counts::of(Vec::new(alloc)),
+    })
+}
 
 /// A side of a screen.
 fn side(digits: &[u8]) -> Result<u32, InputRefusal>

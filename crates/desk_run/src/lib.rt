@@ -13,8 +13,6 @@ mod room;
 mod run;
 mod status;
 mod sum;
-#[cfg(test)]
-mod tests;
 mod text;
 mod told;
 

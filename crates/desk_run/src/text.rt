@@ -8,6 +8,7 @@ ghost use Rattle.desk_run.specs.Texts as spec;
 use crate::dump::put_hex;
 use crate::status::{InputRefusal, Status};
 use arrayvec::ArrayVec;
+use copy_port::{Kind, Limit};
 use desk_span::Report;
 use geom_base::{Rect, Size};
 use hook_route::Cause;
@@ -202,6 +203,52 @@ fn refusal_line(refusal: InputRefusal) -> Line
     line
 }
 
+/// The line of a shelf that is short of drivers of a kind.
+fn shelf_line(kind: Kind, wanted: u32, held: u32) -> Line
+    ensures { result.items ≡ spec.shelf_text kind wanted held }
+{
+    let mut line = Line::new();
+    add(&mut line, b"shelf ");
+    match kind {
+        Kind::Linear => add(&mut line, b"linear"),
+        Kind::Banked => add(&mut line, b"banked"),
+        Kind::Accel => add(&mut line, b"accel"),
+        Kind::Mirror => add(&mut line, b"mirror"),
+    }
+    add(&mut line, b" ");
+    add_number(&mut line, wanted as u64);
+    add(&mut line, b" ");
+    add_number(&mut line, held as u64);
+    add(&mut line, b"\n");
+    line
+}
+
+/// The line of a screen whose driver was not enabled, and why.
+fn enable_line(screen: u32, why: &[u8]) -> Line
+    requires { length why.now ≤ 20 }
+    ensures { result.items ≡ spec.enable_text screen why.now }
+{
+    let mut line = Line::new();
+    add(&mut line, b"enable ");
+    add_number(&mut line, screen as u64);
+    add(&mut line, b" ");
+    add(&mut line, why);
+    add(&mut line, b"\n");
+    line
+}
+
+/// The line of a screen whose driver can't do its mode.
+fn mode_line(screen: u32, limit: Limit) -> Line
+    ensures { result.items ≡ spec.enable_text screen (codes "mode " ++ spec.limit_text limit) }
+{
+    match limit {
+        Limit::Width => enable_line(screen, b"mode width"),
+        Limit::Height => enable_line(screen, b"mode height"),
+        Limit::Format => enable_line(screen, b"mode format"),
+        Limit::Extra => enable_line(screen, b"mode extra"),
+    }
+}
+
 /// The line of a status under which nothing is drawn; empty for the others.
 pub fn plain_line(status: Status) -> Line
     ensures { result.items ≡ spec.plain_text status }
@@ -209,6 +256,9 @@ pub fn plain_line(status: Status) -> Line
     match status {
         Status::Usage => usage_line(),
         Status::InputRefused(refusal) => refusal_line(refusal),
+        Status::ShelfShort { kind, wanted, held } => shelf_line(kind, wanted, held),
+        Status::EnableFault { screen } => enable_line(screen, b"fault"),
+        Status::ModeRefused { screen, limit } => mode_line(screen, limit),
         _ => Line::new(),
     }
 }

@@ -22,7 +22,7 @@ use Rattle.brush_obj.specs.declared.draw_call.DrawCall.TheVariants.{Blt, Copy, P
 use Rattle.blt_kernel.specs.Handed.{TranslatesFrom, mask_of, source_of}
 use Rattle.eng_calls.specs.Inputs.{drawn_with, IsGiven, Suits, translated_by}
 use Rattle.eng_calls.specs.declared.inputs.Inputs.{Inputs}
-use Rattle.desk_span.specs.declared.inputs.CanvasInputs.{CanvasInputs}
+use Rattle.desk_span.specs.declared.inputs.PaneInputs.{PaneInputs}
 use Rattle.desk_span.specs.Desk.{shown_by, translation}
 use Rattle.desk_span.specs.InnerDrawing.{Seen, seen_of, seen_of_view, operands_with, source_held, translation_for}
 
@@ -73,7 +73,7 @@ leads_from (Some v) (Some s) held t xlate e from = let same : seen_of_view v.now
 leads_from None (Some s) held t xlate e from = absurd (cc)
 leads_from (Some v) None held t xlate e from = absurd (cc)
 
-module _ (t : Surface) (i : CanvasInputs) (lent : Inputs) (table : lent.table.now ≡ t.table) (brush : lent.brush ≡ Some i.brush)
+module _ (t : Surface) (i : PaneInputs) (lent : Inputs) (table : lent.table.now ≡ t.table) (brush : lent.brush ≡ Some i.brush)
     (source : LooksLike lent.source (option_copied i.source)) (mask : LooksLike lent.mask (option_copied i.mask)) where
   abbrev from_source : Translation
   from_source = translation (unwrap_or (option_copied i.source) t) t i.back

@@ -28,13 +28,11 @@ use Rattle.script_orders.specs.declared.desk_command.DeskCommand.{DeskCommand}
 use Rattle.script_orders.specs.declared.desk_command.Feed.{Feed}
 use Rattle.script_orders.specs.declared.desk_command.Feed.TheVariants as feeds
 use Rattle.script_orders.specs.declared.desk_command.Feed.TheVariants.{Row}
-use Rattle.script_orders.specs.declared.desk_command.Spot.{Spot}
-use Rattle.script_orders.specs.declared.desk_command.Spot.TheVariants as spots
 use Rattle.desk_span.specs.Desk.{State, bitmap_at, face_of, in_clip, kept_by, mask_surface, new_of, operands_of, row_like, shown_by, source_at, translation}
-use Rattle.desk_span.specs.InnerBeside.{IsAlone, ScreenBeside, stand_of, source_surface}
+use Rattle.desk_span.specs.InnerBeside.{IsAlone, IsSeenAs, stand_of, source_surface}
 use Rattle.desk_span.specs.InnerDrawing.{held_for, holding, operands_with, source_held}
 use Rattle.desk_span.specs.InnerRows.{row_operands}
-use Rattle.desk_span.specs.declared.inputs.CanvasInputs.{CanvasInputs}
+use Rattle.desk_span.specs.declared.inputs.PaneInputs.{PaneInputs}
 use Rattle.desk_span.specs.InnerFrames.{LetsThrough}
 use Rattle.desk_span.proofs.FrameLemmas.{IsFrameOf, frame_back, is_in_seen, on_surface, there_and_back}
 
@@ -126,7 +124,16 @@ source_of_one s t at screen back alone feeds.Desk p =
 source_of_one s t at screen back alone (feeds.Bitmap n) p = ap (kept_by t back (bitmap_at s n)) (unmoved p)
 source_of_one s t at screen back alone (feeds.Row values) p = ap (kept_by t back (Some (row_like t values))) (unmoved p)
 
-module _ (lends : CallsLend) (s : State) (c : DeskCommand) (t : Surface) (at : Point) (screen : Surface) (alone : IsAlone s at screen) (i : CanvasInputs)
+-- and on one of which a part of a screen is seen, or nothing
+source_of_seen : (s : State) (t : Surface) (at : Point) (part : Option Surface) (back : Rgb) → IsSeenAs s at part → (feed : Feed) (p : Point) →
+    kept_by t back (source_surface s t feed) (moved_back (stand_of at feed) p) ≡ source_at s t back feed p
+source_of_seen s t at (Some screen) back seen feed p = source_of_one s t at screen back seen feed p
+source_of_seen s t at None back seen feeds.Nothing p = refl
+source_of_seen s t at None back seen feeds.Desk p = rw (seen.0, seen.1) refl
+source_of_seen s t at None back seen (feeds.Bitmap n) p = ap (kept_by t back (bitmap_at s n)) (unmoved p)
+source_of_seen s t at None back seen (feeds.Row values) p = ap (kept_by t back (Some (row_like t values))) (unmoved p)
+
+module _ (lends : CallsLend) (s : State) (c : DeskCommand) (t : Surface) (at : Point) (part : Option Surface) (seen : IsSeenAs s at part) (i : PaneInputs)
     (own : Bool) (source : (target : Target) → source_held (option_copied i.source) (held_for own target) t ≡ source_surface s t c.source)
     (mask : option_copied i.mask ≡ mask_surface s c.mask) (brush : i.brush.now.face ≡ face_of s c.brush) (back : i.back ≡ c.back) where
   abbrev pub from : Point
@@ -142,7 +149,7 @@ module _ (lends : CallsLend) (s : State) (c : DeskCommand) (t : Surface) (at : P
       SameButSource call from (operands_of s c t) (operands_with t (held_for own target) i) p
   alike call target p = record {
     source = λ reads. ap (λ (kept : Point → Option ℕ). kept (moved_back from (source_point call p))) (given target)
-        ∙ source_of_one s t at screen c.back alone c.source (source_point call p);
+        ∙ source_of_seen s t at part c.back seen c.source (source_point call p);
     mask = ap shown_by mask;
     pattern = ap (λ (face : BrushFace). tiled face t.format t.table) brush;
     format = refl;
@@ -162,9 +169,3 @@ holds_own false (Blt b) = tt
 holds_own true (Copy b) = refl
 holds_own false (Copy b) = tt
 holds_own own (Paint b) = tt
-
--- a desk beside which something is drawn has one screen
-pub one_beside : (s : State) (spot : Spot) (at : Point) (t : Surface) (screen : Option Surface) → ScreenBeside s spot at t screen →
-    (u : Surface) × IsAlone s at u
-one_beside s spots.Desk at t screen beside = (t, beside.1)
-one_beside s (spots.Bitmap n) at t screen (u, is, alone) = (u, alone)

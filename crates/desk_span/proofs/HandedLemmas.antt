@@ -27,7 +27,7 @@ use Rattle.hook_route.specs.Routes.{Routed}
 use Rattle.hook_route.specs.declared.outcome.Outcome.{Outcome}
 use Rattle.script_orders.specs.Asked.{HasNeeded}
 use Rattle.script_orders.specs.Live.{FeedIsThere, MaskIsThere}
-use Rattle.script_orders.specs.PlaceLaws.{IsShift, RectInReach, call_moves, drawn_moved, place_in_reach, place_moved, place_moved_back, place_moves_back}
+use Rattle.script_orders.specs.PlaceLaws.{call_moves, drawn_in_reach, drawn_moved, IsShift, place_in_reach, place_moved, place_moved_back, place_moves_back, RectInReach}
 use Rattle.script_orders.specs.PlaceLaws.{stand_shifts, stand_shifts_back}
 use Rattle.script_orders.specs.Places.{IsPlaced, MayStandAt}
 use Rattle.script_orders.specs.Rows.{zero_point}
@@ -69,10 +69,17 @@ seen_coordinates (Paint c) at stand h k (rect, origin) =
     let back = stand_shifts_back at h in
     (call_rect _ (drawn_moved c.rect (to_origin at) rect back), place_moved c.origin (to_origin at) origin back)
 
+-- and those of a call on a bitmap, its source counted from where a screen stands
+pub lent_coordinates : (call : DrawCall) (stand : Point) → IsShift stand → IsPlaced call → HasCoordinates (lent_call call stand)
+lent_coordinates (Blt c) stand h (rect, src, mask, origin) =
+    (call_rect _ (drawn_in_reach c.rect rect), place_moved_back c.src stand src h, place_in_reach c.mask mask, place_in_reach c.origin origin)
+lent_coordinates (Copy c) stand h (rect, src) = (call_rect _ (drawn_in_reach c.rect rect), place_moved_back c.src stand src h)
+lent_coordinates (Paint c) stand h (rect, origin) = (call_rect _ (drawn_in_reach c.rect rect), place_in_reach c.origin origin)
+
 pub screen_coordinates : (w : ScreenKept) (c : DeskCommand) → MayStandAt w.at → IsPlaced c.call → HasCoordinates (screen_call w c)
 screen_coordinates w c h places = seen_coordinates c.call w.at (stand_of w.at c.source) h (stand_shift w.at c.source h) places
 
-source_moves : (call : DrawCall) (stand : Point) → IsShift stand → IsPlaced call → PointMovesBack (src_of call) stand
+pub source_moves : (call : DrawCall) (stand : Point) → IsShift stand → IsPlaced call → PointMovesBack (src_of call) stand
 source_moves (Blt c) stand h (rect, src, mask, origin) = place_moves_back c.src stand src h
 source_moves (Copy c) stand h (rect, src) = place_moves_back c.src stand src h
 source_moves (Paint c) stand h (rect, origin) = record {

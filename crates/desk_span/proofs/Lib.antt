@@ -1,6 +1,7 @@
+pub mod BitmapLemmas
 pub mod BitsLemmas
-pub mod CanvasLemmas
-pub mod DeskLemmas
+pub mod PaneLemmas
+pub mod CarryLemmas
 pub mod DrawLemmas
 pub mod FrameLemmas
 pub mod HandedLemmas
@@ -9,3 +10,4 @@ pub mod PieceLemmas
 pub mod RoutedLemmas
 pub mod RowCopyLemmas
 pub mod ScreenLemmas
+pub mod SightLemmas

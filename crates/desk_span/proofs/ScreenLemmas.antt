@@ -1,5 +1,5 @@
 -- What a drawing on the screen of a desk leaves, with its report.
-use Rattle.std.proofs.Common.{Bor, ◌≡◌, ◌∙◌, ℕ, zero, suc, ◌<◌, Bool, true, false, ◌&&◌, ◌||◌, IsTrue, List, [], ◌∷◌, length, get_or, set, Option, Some, None}
+use Rattle.std.proofs.Common.{Bor, ◌^◌, ◌≡◌, ◌∙◌, ℕ, zero, suc, ◌<◌, Bool, true, false, ◌&&◌, ◌||◌, IsTrue, List, [], ◌∷◌, length, get_or, set, Option, Some, None}
 use Rattle.std.proofs.Common.{refl, sym, ap, subst, arith, le_refl, true≢false}
 use Rattle.std.specs.Option.{option_copied}
 use Rattle.std.specs.Prelude.{if◌then◌else◌, unwrap_or, IfSome}
@@ -55,12 +55,12 @@ use Rattle.desk_span.specs.declared.on_screen.Handed.{Handed}
 use Rattle.desk_span.specs.InnerBeside.{IsAlone, is_own, plain_colour, source_surface, stand_of}
 use Rattle.desk_span.specs.InnerDrawing.{held_for, source_held, translation_for}
 use Rattle.desk_span.specs.InnerPieces.{IsPiece, aimed, piece_on, screen_call}
-use Rattle.desk_span.specs.InnerRouted.{DrawnByDriver, DrewOn, IsReportOn, IsRouted, face_among, handed, handed_with, lent_bitmap, mask_bitmap, plate, routed_report, wanting_there}
+use Rattle.desk_span.specs.InnerRouted.{DrawnByDriver, DrewOn, IsRouted, face_among, handed, handed_with, lent_bitmap, mask_bitmap, plate, routed_report, wanting_there}
 use Rattle.desk_span.specs.Kept.{Kept, Serves, live_in, shown_by_driver, state_by}
 use Rattle.desk_span.specs.Meeting.{IsTarget, Meets, Reaches}
 use Rattle.desk_span.specs.Pieces.{HasPiece, is_desk, piece_area}
 use Rattle.desk_span.specs.Reports.{Told, report_on}
-use Rattle.desk_span.specs.Telling.{IsPart}
+use Rattle.desk_span.specs.Telling.{IsPart, IsReport}
 use Rattle.desk_span.specs.declared.screen.Piece.{Piece}
 use Rattle.desk_span.proofs.DrawLemmas.{allows-in_clip}
 use Rattle.desk_span.proofs.FrameLemmas.{all_lie_in}
@@ -154,7 +154,7 @@ nothing_asked k driver c serves none lacks = record {
     off p on = false_from_ne_true (piece_on k.screen c p) (λ h. none (record { point = p; inside = on; reached = h }))
 
 -- memory was wanting before anything was asked
-pub memory_wanting : (k : Kept) (driver : PortState) (c : DeskCommand) → IsReportOn (state_by k driver) c wanting_there →
+pub memory_wanting : (k : Kept) (driver : PortState) (c : DeskCommand) → IsReport (state_by k driver) c wanting_there →
     DrewOn k c (Some wanting_there) driver driver
 memory_wanting k driver c told = record {
   shown = sym (drawn_on-nowhere targets.Screen (λ p. new_of (state_by k driver) c (shown_by_driver driver) (moved p k.screen.at)) driver.shown);
@@ -190,7 +190,7 @@ pub wanting_drew : (k : Kept) (c : DeskCommand) (piece : Piece) → IsPiece k.sc
     (told : Told) → told ≡ wanting_there → DrewOn k c (Some told) driver driver
 wanting_drew k c piece is desk driver serves told e =
     subst (λ (t : Told). DrewOn k c (Some t) driver driver) (sym e)
-    (memory_wanting k driver c (record { meets = meets_screen k c piece is desk driver serves; parts = λ i d lt. absurd (omega (arith, lt)) }))
+    (memory_wanting k driver c (record { meets = meets_screen k c piece is desk driver serves; few = omega arith; parts = λ i d lt. absurd (omega (arith, lt)); undrawn = tt }))
 
 pub nothing_drew : (k : Kept) (c : DeskCommand) (driver : PortState) → Serves k.screen driver → ¬ (Reaches (piece_on k.screen c) k.screen.size) →
     DrewOn k c None driver driver
@@ -212,7 +212,7 @@ module _ (k : Kept) (c : DeskCommand) (piece : Piece) (is : IsPiece k.screen c p
     (lacks : (p : Point) (d : ℕ) → area_of c (moved p k.screen.at) ≡ true → piece_on k.screen c p ≡ false →
     new_of (state_by k before) c (shown_by_driver before) (moved p k.screen.at) d ≡ None)
     (points : (p : Point) → IsIn p (whole k.screen.size) → is_in_some p rects ≡ piece_on k.screen c p) (inside : All (λ r. LiesIn r k.screen.size) rects)
-    (d e : Drawn) (each : All HasPoints e.rects) where
+    (d e : Drawn) (each : All HasPoints e.rects) (few : length e.rects < 2 ^ 64) where
   abbrev pub s : State
   s = state_by k before
 
@@ -257,12 +257,14 @@ module _ (k : Kept) (c : DeskCommand) (piece : Piece) (is : IsPiece k.screen c p
       on_screen : (rects : List Rect) → All (λ r. LiesIn r k.screen.size) rects → (p : Point) → IsTrue (is_in_some p rects) → IsIn p (whole k.screen.size)
       on_screen rects all p m = (is_in-IsIn p (whole k.screen.size)).0 (clip_in (whole k.screen.size) rects p (all_within k.screen.size rects all) m)
 
-  reports : (outcome : Outcome) → Routed a before after d e outcome → IfSome (routed_report outcome e.rects) (IsReportOn s c)
+  reports : (outcome : Outcome) → Routed a before after d e outcome → IfSome (routed_report outcome e.rects) (IsReport s c)
   unfolding meets_screen
   reports outcomes.All h = tt
   reports (outcomes.Part cause) h = record {
     meets = meets_screen k c piece is desk before serves;
+    few = few;
     parts = part (λ p m. subst (λ (rs : List Rect). IsTrue (is_in_some p rs)) clip (h.within p (sym (h.points p) ∙ m)));
+    undrawn = tt;
   }
 
   pub routed_drew : (outcome : Outcome) → Routed a before after d e outcome → DrewOn k c (routed_report outcome e.rects) before after
@@ -395,7 +397,7 @@ module _ (k : Kept) (before : PortState) (c : DeskCommand) (piece : Piece) (is :
       subst (λ (r : Option Told). DrewOn k c r before after) (sym h.is)
       (routed_drew k c piece is desk before after serves (asked_of piece.call g before.shown rects) rects refl
       (ap hook_of same_call ∙ same_hook own c.call (to_origin k.screen.at) (stand_of k.screen.at c.source))
-      (ap target_of same_call ∙ target_aimed own (screen_call k.screen c)) news lacks points inside h.empty h.drawn h.each h.outcome h.routed)
+      (ap target_of same_call ∙ target_aimed own (screen_call k.screen c)) news lacks points inside h.empty h.drawn h.each h.few h.outcome h.routed)
     where
       format : (surface_of before.shown (target_of call)).format ≡ t.format
       format = ap (λ (q : Target). (surface_of before.shown q).format) (target_aimed own (screen_call k.screen c))

@@ -178,17 +178,18 @@ drawn_on s c told (spots.Bitmap n) = record s { bitmaps = slice_set s.bitmaps n 
 abbrev pub image_of : Surface → Rgb → Image
 image_of t back = record { size = t.size; format = t.format; table = t.table; values = t.values; back = back }
 
--- what a brush is made of, on the desk as it is then; a pattern that isn't there is black
-abbrev pub face_made : State → Rgb → FaceOrder → BrushFace
-face_made s back (Solid colour) = faces.Solid colour
-face_made s back (Hatch kind fore other) = faces.Hatch kind fore other
-face_made s back (Pattern n) = unwrap_or (option_map (λ (t : Surface). faces.Pattern (image_of t back)) (bitmap_at s n)) (faces.Solid black)
+-- what a brush is made of beside the bitmaps of then; a pattern that isn't there is black
+abbrev pub face_made : List (Option Surface) → Rgb → FaceOrder → BrushFace
+face_made bitmaps back (Solid colour) = faces.Solid colour
+face_made bitmaps back (Hatch kind fore other) = faces.Hatch kind fore other
+face_made bitmaps back (Pattern n) =
+    unwrap_or (option_map (λ (t : Surface). faces.Pattern (image_of t back)) (slice_index_or bitmaps n None)) (faces.Solid black)
 
 -- the desk after a command with these reports
 abbrev pub carried : ScriptCommand → List Told → State → State
 carried (Create o) told s = record s { bitmaps = s.bitmaps ++ Some (blank o.size o.format o.table) ∷ [] }
 carried (Delete n) told s = record s { bitmaps = slice_set s.bitmaps n None }
-carried (Brush o) told s = record s { brushes = s.brushes ++ face_made s o.back o.face ∷ [] }
+carried (Brush o) told s = record s { brushes = s.brushes ++ face_made s.bitmaps o.back o.face ∷ [] }
 carried (Draw c) told s = drawn_on s c told c.target
 carried (Dump q) told s = s
 carried (Sum q) told s = s

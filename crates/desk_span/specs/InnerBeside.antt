@@ -1,6 +1,5 @@
--- Of private calls: a desk as it stands beside one of its surfaces that is drawn on.
+-- Of private calls: a desk as it is seen beside a bitmap that is drawn on.
 use Rattle.std.specs.Prelude.{◌≡◌, ◌≢◌, ◌<◌, ◌^◌, ℕ, All, nat_eq, Bool, true, false, List, [], ◌∷◌, Option, Some, None, map, slice_get, slice_index_or}
-use Rattle.std.specs.Option.{option_copied}
 use Rattle.geom_base.specs.declared.point.Point.{Point}
 use Rattle.pix_format.specs.declared.format.Format.{Format}
 use Rattle.pix_format.specs.declared.rgb.Rgb.{Rgb}
@@ -20,33 +19,27 @@ use Rattle.script_orders.specs.declared.desk_command.Feed.{Feed}
 use Rattle.script_orders.specs.declared.desk_command.Feed.TheVariants as feeds
 use Rattle.script_orders.specs.declared.desk_command.Spot.{Spot}
 use Rattle.script_orders.specs.declared.desk_command.Spot.TheVariants as spots
-use Rattle.script_orders.specs.declared.named.Named.{Named}
-use Rattle.script_orders.specs.declared.named.Named.TheVariants.{Screen, Bitmap}
-use Rattle.desk_span.specs.declared.others.Others.{Others}
-use Rattle.hook_route.specs.declared.outcome.Cause.TheVariants.{Memory}
+use Rattle.script_orders.specs.declared.named.Named.TheVariants.{Bitmap}
+use Rattle.desk_span.specs.declared.sight.Sight.{Sight}
+use Rattle.hook_route.specs.declared.outcome.Cause.{Cause}
 use Rattle.desk_span.specs.Reports.{Told}
 use Rattle.desk_span.specs.Desk.{State, bitmap_at, row_like, standing_at}
 
--- the one screen of a desk, and where it stands
+-- a state has one screen, which stands at a point
 pub record IsAlone (s : State) (at : Point) (screen : Surface) : Type 0 where
   pub places : s.places ≡ standing_at at screen ∷ []
   pub screens : s.screens ≡ screen ∷ []
 
--- the screen is beside a bitmap that is drawn on; or it is drawn on itself
-abbrev pub ScreenBeside : State → Spot → Point → Surface → Option Surface → Type 0
-ScreenBeside s spots.Desk at t screen = (screen ≡ None) × IsAlone s at t
-ScreenBeside s (spots.Bitmap n) at t screen = (u : Surface) × (screen ≡ Some u) × IsAlone s at u
+-- what is seen of the screens of a state: one that stands at a point, or none
+abbrev pub IsSeenAs : State → Point → Option Surface → Type 0
+IsSeenAs s at None = (s.places ≡ []) × (s.screens ≡ [])
+IsSeenAs s at (Some screen) = IsAlone s at screen
 
--- the one target of a drawing on such a desk
-abbrev pub target_of : Spot → Named
-target_of spots.Desk = Screen 0
-target_of (spots.Bitmap n) = Bitmap n
+-- the report that nothing was drawn on a bitmap, and why
+abbrev pub undrawn : ℕ → Cause → Told
+undrawn n cause = record { target = Bitmap n; cause = cause; rects = [] }
 
--- the report that memory was wanting for it
-abbrev pub wanting : Spot → Told
-wanting spot = record { target = target_of spot; cause = Memory; rects = [] }
-
--- the surface that is the source of a drawing on another one, on such a desk
+-- the surface that is the source of a drawing on another one, as that is seen
 abbrev pub source_surface : State → Surface → Feed → Option Surface
 source_surface s t feeds.Nothing = None
 source_surface s t feeds.Desk = slice_get s.screens 0
@@ -58,25 +51,33 @@ abbrev pub stand_of : Point → Feed → Point
 stand_of at feeds.Desk = at
 stand_of at feed = zero_point
 
+-- what is drawn on is a bitmap, which is this surface
+abbrev pub IsAt : State → Spot → Surface → Type 0
+IsAt s spots.Desk t = ⊥
+IsAt s (spots.Bitmap n) t = bitmap_at s n ≡ Some t
+
 -- what is drawn on isn't this bitmap
 abbrev pub IsOther : Spot → ℕ → Type 0
 IsOther spots.Desk m = Unit {0}
 IsOther (spots.Bitmap n) m = m ≢ n
 
--- the bitmap that is drawn on is this surface
-abbrev pub IsAt : State → Spot → Surface → Type 0
-IsAt s spots.Desk t = Unit {0}
-IsAt s (spots.Bitmap n) t = bitmap_at s n ≡ Some t
-
 abbrev pub faces_of : List Brush → List BrushFace
 faces_of brushes = map (λ (b : Brush). b.face) brushes
 
--- the desk's surfaces and brushes but for the surface that is drawn on
-pub record IsBeside (s : State) (spot : Spot) (t : Surface) (o : Others) : Type 0 where
-  pub screen : ScreenBeside s spot o.screen_at t (option_copied o.screen)
-  pub bitmaps : (m : ℕ) → IsOther spot m → slice_index_or o.bitmaps.now m None ≡ bitmap_at s m
+-- a bitmap among those that were made, where it is there
+abbrev pub bitmap_among : List (Option Surface) → ℕ → Option Surface
+bitmap_among bitmaps n = slice_index_or bitmaps n None
+
+-- a bitmap that is drawn on is this surface, and beside it stand the other bitmaps and the brushes of a state
+pub record IsAmong (s : State) (spot : Spot) (t : Surface) (items : List (Option Surface)) (made : List Brush) : Type 0 where
+  pub bitmaps : (m : ℕ) → IsOther spot m → slice_index_or items m None ≡ bitmap_at s m
   pub own : IsAt s spot t
-  pub brushes : faces_of o.brushes.now ≡ s.brushes
+  pub brushes : faces_of made ≡ s.brushes
+
+-- and what is seen of the screens
+pub record IsBeside (s : State) (spot : Spot) (t : Surface) (sight : Sight) (items : List (Option Surface)) (made : List Brush) : Type 0 where
+  pub screen : IsSeenAs s sight.at sight.part
+  pub among : IsAmong s spot t items made
 
 -- each value of a row fits a format
 abbrev pub RowFits : Format → Feed → Type 0

@@ -12,7 +12,7 @@ use Rattle.brush_obj.specs.Brush.{tiled}
 use Rattle.brush_obj.specs.Calls.{Operands, blt_operands}
 use Rattle.brush_obj.specs.declared.draw_call.DrawCall.{DrawCall}
 use Rattle.brush_obj.specs.declared.draw_call.DrawCall.TheVariants.{Blt, Copy, Paint}
-use Rattle.desk_span.specs.declared.inputs.CanvasInputs.{CanvasInputs}
+use Rattle.desk_span.specs.declared.inputs.PaneInputs.{PaneInputs}
 use Rattle.desk_span.specs.Desk.{shown_by, translation}
 
 -- the surface that is a call's source: the one that is handed; else the one that is drawn on, where the call holds it
@@ -22,7 +22,7 @@ source_held None (Some target) t = Some t
 source_held None None t = None
 
 -- the operands of a call that holds this, from these inputs
-abbrev pub operands_with : Surface → Option Target → CanvasInputs → Operands
+abbrev pub operands_with : Surface → Option Target → PaneInputs → Operands
 operands_with t held i =
     let xlate = translation (unwrap_or (option_copied i.source) t) t i.back in
     let pattern = tiled i.brush.now.face t.format t.table in

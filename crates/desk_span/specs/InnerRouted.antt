@@ -1,6 +1,6 @@
 -- Of private calls: a drawing on a screen that its driver or the engine draws.
 use Rattle.std.specs.Option.{option_copied, option_to_list}
-use Rattle.std.specs.Prelude.{◌≡◌, ◌&&◌, ℕ, List, [], Option, Some, None, IfSome, option_map, slice_index_or, if◌then◌else◌}
+use Rattle.std.specs.Prelude.{◌≡◌, ◌&&◌, ℕ, List, [], Option, Some, None, IfSome, option_map, slice_index_or, if◌then◌else◌, ◌<◌, ◌^◌, length}
 use Rattle.geom_base.specs.declared.target.Target.TheVariants.{Screen}
 use Rattle.geom_base.specs.Drawn.{Drawn}
 use Rattle.geom_base.specs.Points.{HasPoints, moved}
@@ -26,17 +26,17 @@ use Rattle.script_orders.specs.declared.desk_command.Feed.TheVariants as feeds
 use Rattle.script_orders.specs.declared.desk_command.Spot.{Spot}
 use Rattle.desk_span.specs.declared.on_screen.Handed.{Handed}
 use Rattle.desk_span.specs.InnerBeside.{faces_of, is_own}
-use Rattle.desk_span.specs.Desk.{State, area_of, new_of}
+use Rattle.desk_span.specs.Desk.{area_of, face_made, new_of}
 use Rattle.desk_span.specs.Kept.{Kept, ScreenKept, shown_by_driver, state_by}
 use Rattle.hook_route.specs.declared.outcome.Cause.TheVariants.{Memory}
 use Rattle.hook_route.specs.declared.outcome.Outcome.{Outcome}
 use Rattle.hook_route.specs.declared.outcome.Outcome.TheVariants.{All, Part}
 use Rattle.script_orders.specs.declared.named.Named.TheVariants as named
+use Rattle.script_orders.specs.declared.orders.FaceOrder.{FaceOrder}
 use Rattle.script_orders.specs.declared.script_command.ScriptCommand.TheVariants as asked
 use Rattle.desk_span.specs.Drives.{Drives}
 use Rattle.desk_span.specs.Reports.{Told, part_of}
-use Rattle.desk_span.specs.Meeting.{Meets}
-use Rattle.desk_span.specs.Telling.{IsPart}
+use Rattle.desk_span.specs.Telling.{IsReport}
 use Rattle.std.specs.List.{All as AllOf}
 
 -- the bitmap that a drawing takes its source from, where that is another than what is drawn on, and the one that is its mask
@@ -79,6 +79,10 @@ handed_with h face = handed h.call.now (option_copied h.source) (option_copied h
 abbrev pub kept_with : ScreenKept → List (Option Surface) → List Brush → Kept
 kept_with w bitmaps brushes = record { screen = w; bitmaps = bitmaps; brushes = faces_of brushes }
 
+-- a brush that is made, in which no driver has kept anything
+abbrev pub brush_made : List (Option Surface) → Rgb → FaceOrder → Brush
+brush_made bitmaps back face = record { face = face_made bitmaps back face; slots = [] }
+
 -- a screen as a surface whose values don't count
 abbrev pub plate : ScreenKept → Surface
 plate w = record { size = w.size; format = w.format; table = w.table; values = [] }
@@ -109,15 +113,11 @@ pub record IsRouted (a : Asked) (before after : PortState) (told : Option Told) 
   pub drawn : Drawn
   pub routed : Routed a before after empty drawn outcome
   pub each : AllOf HasPoints drawn.rects
+  pub few : length drawn.rects < 2 ^ 64
   pub is : told ≡ routed_report outcome drawn.rects
-
--- a report is on a target that the drawing meets, and names parts of it
-pub record IsReportOn (s : State) (c : DeskCommand) (t : Told) : Type 0 where
-  pub meets : Meets s c t.target
-  pub parts : AllOf (IsPart s c t.target meets.surface.size) t.rects
 
 -- what a drawing on the screen of a desk left, with its report if it has one
 pub record DrewOn (k : Kept) (c : DeskCommand) (told : Option Told) (before after : PortState) : Type 0 where
   pub shown : DrawnByDriver k c told before after
-  pub report : IfSome told (IsReportOn (state_by k before) c)
+  pub report : IfSome told (IsReport (state_by k before) c)
   pub drives : Drives (state_by k before) (asked.Draw c) (option_to_list told) 0 before after

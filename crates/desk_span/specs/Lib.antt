@@ -5,11 +5,15 @@ pub mod LiveLaws
 pub mod Meeting
 pub mod Pieces
 pub mod Drives
-pub mod Telling
 pub mod Reading
+pub mod Telling
+pub mod Carries
+pub mod CarryLaws
 pub mod InnerBeside
 pub mod InnerDrawing
 pub mod InnerFrames
+pub mod InnerPane
 pub mod InnerPieces
 pub mod InnerRouted
 pub mod InnerRows
+pub mod InnerSight

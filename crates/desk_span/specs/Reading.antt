@@ -1,8 +1,9 @@
 -- What is seen of a surface of the desk: its look, and its values as they are read.
-use Rattle.std.specs.Prelude.{◌≡◌, ◌*◌, ℕ, List, [], length, MatchOption}
+use Rattle.std.specs.Prelude.{◌≡◌, ◌≢◌, ◌*◌, ℕ, List, [], length, MatchOption}
 use Rattle.geom_base.specs.declared.port_answer.PortAnswer.{PortAnswer}
-use Rattle.geom_base.specs.declared.port_answer.PortAnswer.TheVariants.{Done}
+use Rattle.geom_base.specs.declared.port_answer.PortAnswer.TheVariants.{Done, Fault}
 use Rattle.script_orders.specs.declared.named.Named.{Named}
+use Rattle.script_orders.specs.declared.named.Named.TheVariants.{Screen, Bitmap}
 use Rattle.surf_obj.specs.Surface.{Surface}
 use Rattle.desk_span.specs.Desk.{State, surface_at}
 use Rattle.desk_span.specs.declared.desk.SurfaceLook.{SurfaceLook}
@@ -21,3 +22,8 @@ pub record LooksSo (look : SurfaceLook) (t : Surface) : Type 0 where
 abbrev pub IsRead : PortAnswer → List ℕ → Surface → Type 0
 IsRead Done out t = out ≡ t.values
 IsRead answer out t = out ≡ []
+
+-- no read of a bitmap faults
+abbrev pub IsFaultless : Named → PortAnswer → Type 0
+IsFaultless (Screen n) answer = Unit {0}
+IsFaultless (Bitmap n) answer = answer ≢ Fault

@@ -18,7 +18,7 @@ ghost use Rattle.desk_span.specs.InnerFrames.{LetsThrough};
 ghost use Rattle.desk_span.specs.InnerRows.{CopiesRow, row_operands};
 
 use crate::canvas::Canvas;
-use crate::inputs::CanvasInputs;
+use crate::inputs::PaneInputs;
 use crate::others::{BLACK, Others, is_own, plain_colour};
 use crate::place::ORIGIN;
 use brush_obj::{BltCall, BrushObj, CopyCall, DrawCall, calls_move};
@@ -63,8 +63,8 @@ pub fn draw_beside(
     requires can { DrawsOn target.old command.now }
     requires made { WasMade (length others.brushes.now) command.now.brush }
     requires place { MayStandAt at }
-    requires seen { CanBeSeen command.now.call at (stand_of others.screen_at command.now.source) }
-    ensures ok { OnOk result ((s : State) → IsBeside s command.now.target target.old others.entry →
+    requires seen { CanBeSeen command.now.call at (stand_of others.sight.now.at command.now.source) }
+    ensures ok { OnOk result ((s : State) → IsBeside s command.now.target target.old others.entry.sight.now others.entry.bitmaps.now others.entry.brushes.now →
         target.new ≡ changed (λ p. new_of s command.now target.old (moved p at)) (λ p. area_of command.now (moved p at)) target.old) }
     ensures err { OnErr result (target.new ≡ target.old) }
     ensures meets { OnErr result (Reaches (λ p. area_of command.now (moved p at)) target.old.size) }
@@ -101,14 +101,14 @@ fn draw_call(
     requires other { MaskIsOther command.now.target command.now.mask }
     requires made { WasMade (length others.brushes.now) command.now.brush }
     requires source { IsNoRow command.now.source }
-    requires moves { PointMovesBack (src_of call.now) (stand_of others.screen_at command.now.source) }
+    requires moves { PointMovesBack (src_of call.now) (stand_of others.sight.now.at command.now.source) }
     requires inside { All (λ r. LiesIn r target.old.size) clip.old.rects }
-    ensures ok { OnOk result ((s : State) → IsBeside s command.now.target target.old others.entry →
+    ensures ok { OnOk result ((s : State) → IsBeside s command.now.target target.old others.entry.sight.now others.entry.bitmaps.now others.entry.brushes.now →
         target.new ≡ changed (new_of_call call.now (operands_of s command.now target.old)) (λ p. is_in_some p clip.old.rects) target.old) }
     ensures err { OnErr result (target.new ≡ target.old) }
 {
     let plain = BrushObj::solid(alloc, plain_colour(command.brush));
-    let inputs = CanvasInputs {
+    let inputs = PaneInputs {
         source: others.source(command.target, &command.source),
         mask: others.mask(command.mask),
         brush: others.brush(command.brush, &plain),
@@ -161,7 +161,7 @@ fn draw_row(
 {
     let from = distance(call.rect.left, frame.left) as usize;
     let len = distance(frame.left, frame.right) as usize;
-    let row = target.row(alloc, &values[from..from + len])?;
+    let row = target.pane().row(alloc, &values[from..from + len])?;
     let part = CopyCall {
         target: call.target,
         rect: *frame,
@@ -169,7 +169,7 @@ fn draw_row(
         src: ORIGIN,
     };
     let no_brush = BrushObj::solid(alloc, BLACK);
-    let inputs = CanvasInputs {
+    let inputs = PaneInputs {
         source: Some(&row),
         mask: None,
         brush: &no_brush,

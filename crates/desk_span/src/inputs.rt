@@ -2,16 +2,16 @@
 
 ghost use Rattle.std.specs.Prelude.{◌≡◌};
 
-use crate::canvas::Canvas;
+use crate::pane::Pane;
 use brush_obj::BrushObj;
 use pix_format::Rgb;
 
-/// What a drawing on a surface of the desk is handed: the surfaces that are its source and its mask, its brush, and the background
+/// What a drawing on pixels is handed: the surfaces that are its source and its mask, its brush, and the background
 /// colour in force.
 #[derive(Clone, Copy)]
-pub struct CanvasInputs<'a> {
-    pub source: Option<&'a Canvas>,
-    pub mask: Option<&'a Canvas>,
+pub struct PaneInputs<'a> {
+    pub source: Option<&'a Pane>,
+    pub mask: Option<&'a Pane>,
     pub brush: &'a BrushObj,
     pub back: Rgb,
 }

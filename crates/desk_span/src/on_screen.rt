@@ -1,6 +1,6 @@
 //! Drawings on the screen of the desk, which its driver draws, or the engine through the driver's port.
 
-ghost use Rattle.std.specs.Prelude.{◌≡◌, ◌<◌, [], IfOk, IsTrue, OnErr, length, map};
+ghost use Rattle.std.specs.Prelude.{◌≡◌, ◌<◌, ◌^◌, [], IfOk, IsTrue, OnErr, length, map};
 ghost use Rattle.std.specs.List.{All};
 ghost use Rattle.geom_base.specs.declared.target.Target.TheVariants as target;
 ghost use Rattle.geom_base.specs.Points.{HasPoints};
@@ -15,10 +15,11 @@ ghost use Rattle.desk_span.specs.InnerPieces.{IsPiece};
 ghost use Rattle.desk_span.specs.InnerRouted.{DrewOn, IsFor, IsRouted, face_among, handed_with, kept_with, routed_report, wanting_there};
 ghost use Rattle.desk_span.specs.Kept.{Serves, live_in};
 
-use crate::canvas::{Canvas, view_of};
+use crate::canvas::Canvas;
 use crate::draw::region_of;
 use crate::lent::{lent_bitmap, mask_bitmap};
 use crate::others::plain_colour;
+use crate::pane::{Pane, view_of};
 use crate::reports::Report;
 use crate::screen::{Piece, Screen};
 use brush_obj::{BrushObj, DrawCall, calls_move};
@@ -37,8 +38,8 @@ use std::alloc::{AllocError, Global};
 pub struct Handed<'a> {
     place: usize,
     call: &'a DrawCall,
-    source: Option<&'a Canvas>,
-    mask: Option<&'a Canvas>,
+    source: Option<&'a Pane>,
+    mask: Option<&'a Pane>,
     xlate: &'a XlateObj,
     table: &'a ColourTable,
 }
@@ -203,6 +204,7 @@ fn hand_over(
 fn reported(outcome: Outcome, drawn: DrawnList) -> Option<Report>
     ensures told { result ≡ routed_report outcome drawn.rects }
     ensures points { All HasPoints drawn.rects }
+    ensures few { length drawn.rects < 2 ^ 64 }
 {
     have_points(&drawn);
     match outcome {
@@ -211,9 +213,10 @@ fn reported(outcome: Outcome, drawn: DrawnList) -> Option<Report>
     }
 }
 
-/// Each rectangle of a drawn list has points.
+/// Each rectangle of a drawn list has points, and a number of 64 bits counts them.
 fn have_points(drawn: &DrawnList)
-    ensures { All HasPoints drawn.now.rects }
+    ensures points { All HasPoints drawn.now.rects }
+    ensures few { length drawn.now.rects < 2 ^ 64 }
 {
-    drawn.rects();
+    let _count = drawn.rects().len();
 }

@@ -1,4 +1,4 @@
-//! What stands beside a surface that is drawn on.
+//! What stands beside a bitmap that is drawn on.
 
 ghost use Rattle.std.specs.Prelude.{◌≡◌, length};
 ghost use Rattle.std.specs.Option.{option_copied};
@@ -11,77 +11,58 @@ ghost use Rattle.desk_span.specs.InnerBeside.{IsBeside, IsNoRow, WasMade, is_own
 ghost use Rattle.desk_span.specs.InnerDrawing.{held_for, source_held};
 
 use crate::canvas::Canvas;
+use crate::lent::{lent_bitmap, mask_bitmap};
+use crate::pane::Pane;
 use crate::place::ORIGIN;
+use crate::sight::Sight;
 use brush_obj::BrushObj;
 use geom_base::Point;
 use pix_format::Rgb;
 use script_orders::{BrushUse, Feed, Spot};
 
-/// The surfaces and brushes of a desk but for the surface that is drawn on.
+/// What a drawing on a bitmap may draw with: what is seen of the screen, the other bitmaps, and the brushes.
 #[derive(Clone, Copy)]
 pub struct Others<'a> {
-    /// The screen, where it isn't what is drawn on.
-    pub screen: Option<&'a Canvas>,
-    /// Where the screen stands.
-    pub screen_at: Point,
+    pub sight: &'a Sight,
     /// The bitmaps by their numbers; none in the place of the one that is drawn on.
     pub bitmaps: &'a [Option<Canvas>],
     pub brushes: &'a [BrushObj],
 }
 
 impl<'a> Others<'a> {
-    ghost use Rattle.std.specs.Prelude.{None, slice_index_or};
-
-    /// A bitmap that is there.
-    fn bitmap(self, number: u32) -> Option<&'a Canvas>
-        ensures { option_copied result ≡ slice_index_or self.entry.bitmaps.now number None }
-    {
-        match self.bitmaps.get(number as usize) {
-            Some(Some(bitmap)) => Some(bitmap),
-            _ => None,
-        }
-    }
-
     /// The surface that a drawing takes its source from, where that isn't the one that is drawn on.
-    pub fn source(self, spot: Spot, feed: &Feed) -> Option<&'a Canvas>
-        ensures { (s : State) (t : Surface) (target : Target) → IsBeside s spot t self.entry → IsNoRow feed.now →
+    pub fn source(self, spot: Spot, feed: &Feed) -> Option<&'a Pane>
+        ensures { (s : State) (t : Surface) (target : Target) → IsBeside s spot t self.entry.sight.now self.entry.bitmaps.now self.entry.brushes.now → IsNoRow feed.now →
             source_held (option_copied result) (held_for (is_own spot feed.now) target) t ≡ source_surface s t feed.now }
     {
-        if is_own(spot, feed) {
-            return None;
-        }
         match feed {
-            Feed::Desk => self.screen,
-            Feed::Bitmap(number) => self.bitmap(*number),
-            _ => None,
+            Feed::Desk => self.sight.part(),
+            feed => lent_bitmap(self.bitmaps, spot, feed),
         }
     }
 
     /// The point at which the source of a drawing stands.
     pub fn stand_of(self, feed: &Feed) -> Point
-        ensures { result ≡ stand_of self.entry.screen_at feed.now }
+        ensures { result ≡ stand_of self.entry.sight.now.at feed.now }
     {
         match feed {
-            Feed::Desk => self.screen_at,
+            Feed::Desk => self.sight.at,
             _ => ORIGIN,
         }
     }
 
     /// The mask of a drawing.
-    pub fn mask(self, mask: Option<u32>) -> Option<&'a Canvas>
-        ensures { (s : State) (spot : Spot) (t : Surface) → IsBeside s spot t self.entry → MaskIsOther spot mask → option_copied result ≡ mask_surface s mask }
+    pub fn mask(self, mask: Option<u32>) -> Option<&'a Pane>
+        ensures { (s : State) (spot : Spot) (t : Surface) → IsBeside s spot t self.entry.sight.now self.entry.bitmaps.now self.entry.brushes.now → MaskIsOther spot mask → option_copied result ≡ mask_surface s mask }
     {
-        match mask {
-            Some(number) => self.bitmap(number),
-            None => None,
-        }
+        mask_bitmap(self.bitmaps, mask)
     }
 
     /// The brush of a drawing; `plain` where it isn't one that was made.
     pub fn brush(self, with: BrushUse, plain: &'a BrushObj) -> &'a BrushObj
         requires plain { plain.now.face ≡ faces.Solid (plain_colour with) }
         requires made { WasMade (length self.brushes.now) with }
-        ensures { (s : State) (spot : Spot) (t : Surface) → IsBeside s spot t self.entry → result.now.face ≡ face_of s with }
+        ensures { (s : State) (spot : Spot) (t : Surface) → IsBeside s spot t self.entry.sight.now self.entry.bitmaps.now self.entry.brushes.now → result.now.face ≡ face_of s with }
     {
         match with {
             BrushUse::Made(number) => &self.brushes[number as usize],

@@ -7,20 +7,11 @@ ghost use Rattle.brush_obj.specs.Calls.{PointMoves, PointMovesBack};
 ghost use Rattle.clip_obj.specs.Clip.{to_origin};
 ghost use Rattle.desk_span.specs.InnerBeside.{CanBeSeen};
 
-use crate::canvas::Canvas;
 use brush_obj::DrawCall;
 use geom_base::{Point, Rect};
 
 /// The first point of a surface, and of the desk.
 pub const ORIGIN: Point = Point { x: 0, y: 0 };
-
-/// A screen of the desk.
-#[derive(Drop)]
-pub struct Screen {
-    pub canvas: Canvas,
-    /// The point of the desk that its first point is.
-    pub at: Point,
-}
 
 /// The coordinates of a call are numbers of 32 bits, and stay so where nothing is moved.
 pub fn is_seen_from_origin(call: &DrawCall)

@@ -2,6 +2,7 @@
 
 ghost use Rattle.std.specs.Prelude.{◌≡◌, ◌<◌, ◌++◌, ◌∷◌, [], length, IfOk};
 ghost use Rattle.desk_span.specs.declared.reports.TheConstants.{MOST_REPORTS};
+ghost use Rattle.desk_span.specs.Reports.{is_fault, tells_fault};
 
 use geom_base::{DrawnList, Rect};
 use hook_route::Cause;
@@ -68,6 +69,16 @@ impl Report {
     }
 }
 
+/// Whether a cause is a fault.
+pub fn is_fault(cause: Cause) -> bool
+    ensures { result ≡ is_fault cause }
+{
+    match cause {
+        Cause::Fault => true,
+        Cause::Memory => false,
+    }
+}
+
 /// The most reports of a command: one for each screen.
 pub const MOST_REPORTS: usize = 8;
 
@@ -104,6 +115,13 @@ impl Reports {
         ensures { result.now ≡ self.now }
     {
         self.items.as_slice()
+    }
+
+    /// Whether one of them tells of a fault.
+    pub fn tell_fault(&self) -> bool
+        ensures { result ≡ tells_fault self.now }
+    {
+        self.items().iter().any(|report| is_fault(report.cause()))
     }
 
     /// Takes all reports away.

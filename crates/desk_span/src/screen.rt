@@ -1,27 +1,38 @@
 //! A screen of the desk, and what a drawing asks of it.
 
-ghost use Rattle.std.specs.Prelude.{◌≡◌, ◌&&◌, ◌↔◌, IsTrue, IfNone, IfOk, IfSome, unwrap_or};
+ghost use Rattle.std.specs.Prelude.{◌≡◌, ◌<◌, ◌&&◌, ◌↔◌, true, length, map, IsTrue, IfErr, IfNone, IfOk, IfSome, unwrap_or};
 ghost use Rattle.std.specs.Option.{option_copied};
 ghost use Rattle.geom_base.specs.declared.point.Point.{Point};
-ghost use Rattle.geom_base.specs.Points.{IsIn, LiesIn, whole};
-ghost use Rattle.brush_obj.specs.Calls.{reads_source, rect_of, source_point};
+ghost use Rattle.geom_base.specs.declared.port_answer.PortAnswer.TheVariants.{Done};
+ghost use Rattle.geom_base.specs.Points.{HasPoints, IsIn, LiesIn, whole};
+ghost use Rattle.brush_obj.specs.Calls.{held_of, reads_source, rect_of, source_point};
 ghost use Rattle.copy_port.specs.Given.{HasCoordinates};
+ghost use Rattle.copy_port.specs.Port.{Keeps};
+ghost use Rattle.eng_calls.specs.Copies.{HeldFor, LiesOnTarget, ended};
+ghost use Rattle.script_orders.specs.Asked.{IsSurfaceSize};
 ghost use Rattle.script_orders.specs.Places.{IsPlaced};
 ghost use Rattle.script_orders.specs.declared.desk_command.Spot.TheVariants as spots;
+ghost use Rattle.desk_shelf.specs.Shelf.{OthersStay, state_at};
 ghost use Rattle.desk_span.specs.InnerBeside.{stand_of};
 ghost use Rattle.desk_span.specs.InnerPieces.{FindsThere, IsPiece, aimed, piece_on, screen_call};
 ghost use Rattle.desk_span.specs.Desk.{translation};
 ghost use Rattle.desk_span.specs.InnerDrawing.{translation_for};
 ghost use Rattle.desk_span.specs.InnerRouted.{plate};
+ghost use Rattle.desk_span.specs.Kept.{Serves, first_screen, shown_by_driver};
 ghost use Rattle.desk_span.specs.Meeting.{Reaches};
+ghost use Rattle.desk_span.specs.Reading.{IsRead};
 
-use crate::canvas::Canvas;
 use crate::draw::{meets, region_of};
-use crate::others::is_own;
+use crate::others::{BLACK, is_own};
+use crate::pane::Pane;
 use crate::place::ORIGIN;
 use brush_obj::{BltCall, CopyCall, DrawCall, PaintCall, shifted_back};
 use clip_obj::{origin_from, seen_from};
-use geom_base::{Point, Rect, Size, Target};
+use copy_port::Pictured;
+use ddi_driver::DriverPort;
+use desk_shelf::{held_at, read_at};
+use eng_calls::PartCopy;
+use geom_base::{Point, PortAnswer, Rect, Size, Target};
 use pix_format::{ColourTable, Format, Rgb, XlateObj};
 use script_orders::{DeskCommand, Feed};
 use std::alloc::{AllocError, Global};
@@ -76,7 +87,7 @@ fn stand_of(screen: Point, feed: &Feed) -> Point
 }
 
 /// The call on the screen of a driver, which it holds where that is its own source.
-fn aimed(own: bool, call: &DrawCall) -> DrawCall
+pub fn aimed(own: bool, call: &DrawCall) -> DrawCall
     ensures { result ≡ aimed own call.now }
 {
     let target = Target::Screen;
@@ -104,6 +115,79 @@ fn reads_own(own: bool, call: &DrawCall) -> bool
 }
 
 impl Screen {
+    /// A screen of format 8 with the standard colours, at the first point of the desk.
+    pub(crate) fn standard(alloc: Global, place: usize, size: Size) -> Result<Screen, AllocError>
+        requires { IsSurfaceSize size }
+        ensures { IfOk result (λ w. w ≡ first_screen place size) }
+    {
+        let format = Format::B8;
+        let table = ColourTable::standard(alloc, format)?;
+        let same = XlateObj::build(alloc, format, &table, format, &table, BLACK)?;
+        Ok(Screen {
+            place,
+            at: ORIGIN,
+            size,
+            format,
+            table,
+            same,
+        })
+    }
+
+    /// Reads its values whole, row by row, in place of what the list had. The list's room is kept.
+    pub(crate) fn read(&self, shelf: &mut Vec<DriverPort>, out: &mut Vec<u32>) -> PortAnswer
+        requires place { self.now.place < length shelf.old.items }
+        requires serves { Serves self.now (state_at (map (λ d. ⟦<DriverPort as Pictured>⟧.state d) shelf.old.items) self.now.place) }
+        ensures read { IsRead result out.new.items (shown_by_driver (state_at (map (λ d. ⟦<DriverPort as Pictured>⟧.state d) shelf.old.items) self.now.place)) }
+        ensures keeps { Keeps (state_at (map (λ d. ⟦<DriverPort as Pictured>⟧.state d) shelf.old.items) self.now.place)
+            (state_at (map (λ d. ⟦<DriverPort as Pictured>⟧.state d) shelf.new.items) self.now.place) result }
+        ensures others { OthersStay self.now.place shelf.old.items shelf.new.items }
+    {
+        let whole = self.size.whole();
+        out.clear();
+        if out.resize((self.size.w * self.size.h) as usize, 0).is_err() {
+            return PortAnswer::NoMemory;
+        }
+        match read_at(shelf, self.place, Target::Screen, whole, out.as_mut_slice()) {
+            PortAnswer::Done => PortAnswer::Done,
+            PortAnswer::Fault => {
+                out.clear();
+                PortAnswer::Fault
+            }
+            PortAnswer::NoMemory => {
+                out.clear();
+                PortAnswer::NoMemory
+            }
+        }
+    }
+
+    /// The part of it that a call reads, as its source, for the points of a frame; none where it reads none of it. The call has the screen's own
+    /// coordinates.
+    ///
+    /// # Errors
+    ///
+    /// The answer of the port that stopped it, or want of memory.
+    pub(crate) fn part(
+        &self,
+        alloc: Global,
+        shelf: &mut Vec<DriverPort>,
+        call: &DrawCall,
+        frame: &Rect,
+    ) -> Result<Option<PartCopy>, PortAnswer>
+        requires place { self.now.place < length shelf.old.items }
+        requires serves { Serves self.now (state_at (map (λ d. ⟦<DriverPort as Pictured>⟧.state d) shelf.old.items) self.now.place) }
+        requires coordinates { HasCoordinates call.now }
+        requires frame { LiesOnTarget frame.now }
+        requires points { HasPoints frame.now }
+        ensures ok { let shown = (state_at (map (λ d. ⟦<DriverPort as Pictured>⟧.state d) shelf.old.items) self.now.place).shown in
+            IfOk result (HeldFor (held_of (aimed true call.now)) (aimed true call.now) shown frame.now) }
+        ensures keeps { Keeps (state_at (map (λ d. ⟦<DriverPort as Pictured>⟧.state d) shelf.old.items) self.now.place)
+            (state_at (map (λ d. ⟦<DriverPort as Pictured>⟧.state d) shelf.new.items) self.now.place) (ended result) }
+        ensures err { IfErr result (λ answer. ¬ (answer ≡ Done)) }
+        ensures others { OthersStay self.now.place shelf.old.items shelf.new.items }
+    {
+        held_at(alloc, shelf, self.place, &aimed(true, call), frame)
+    }
+
     /// The translation to it from a source, or from itself where none is lent; none for a call that has no source.
     ///
     /// # Errors
@@ -113,7 +197,7 @@ impl Screen {
         &self,
         alloc: Global,
         call: &DrawCall,
-        source: Option<&Canvas>,
+        source: Option<&Pane>,
         back: Rgb,
     ) -> Result<Option<XlateObj>, AllocError>
         ensures { let from = unwrap_or (option_copied source.entry) (plate self.now) in

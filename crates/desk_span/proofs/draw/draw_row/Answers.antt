@@ -57,15 +57,15 @@ row-requires-clause-few c =
 
 pub row-requires-clause-fits : goal.row-requires-clause-fits
 row-requires-clause-fits c =
-    All-take (λ (v : ℕ). v < 2 ^ bits_of c.args.target.now.format) _ _
-    (All-drop (λ (v : ℕ). v < 2 ^ bits_of c.args.target.now.format) c.distance-from.result c.args.values.now c.requires.fits)
+    rw c.pane.ensures (All-take (λ (v : ℕ). v < 2 ^ bits_of c.args.target.now.format) _ _
+    (All-drop (λ (v : ℕ). v < 2 ^ bits_of c.args.target.now.format) c.distance-from.result c.args.values.now c.requires.fits))
 
 pub returns-clause-ok : goal.returns-clause-ok
 returns-clause-ok c =
     let edge : FitsSigned w32 c.args.call.now.rect.left = search rules in
     let left : FitsSigned w32 c.args.frame.now.left = search rules in
     let right : FitsSigned w32 c.args.frame.now.right = search rules in
-    on_ok_weaker c.draw.result (λ drew back. (rw c.in_ok-row.ensures at drew)
+    on_ok_weaker c.draw.result (λ drew back. (rw (c.in_ok-row.ensures, c.pane.ensures) at drew)
     ∙ row_copied c.args.target.now c.args.call.now c.args.values.now c.args.frame.now _ _ c.requires.copied c.requires.frame
     c.requires.some (columns _ _ _ edge left c.distance-from.ensures) (columns _ _ _ left right c.distance-len.ensures) c.requires.fits back black
     c.args.clip.now.rects c.requires.places c.requires.within) c.draw.ensures.ok

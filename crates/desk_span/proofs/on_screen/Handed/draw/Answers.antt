@@ -22,5 +22,6 @@ returns-clause-routed g c =
           (ap (option_map seen_of_view) c.as_ref.ensures.value ∙ c.view_of-source.ensures)
           (ap (option_map seen_of_view) c.as_ref-2.ensures.value ∙ c.view_of-mask.ensures) _ _ _ _ _ _ _ c.route_at-outcome.ensures.routed;
       each = c.reported.ensures.points;
+      few = c.reported.ensures.few;
       is = c.reported.ensures.told;
     }
